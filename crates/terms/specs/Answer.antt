@@ -1,0 +1,14 @@
+-- What a call answers: the figures or one numbered refusal (00, demand 1; 01, "Refusals by number").
+-- Assumes nothing.
+use Prim.Native.Nat.{ℕ}
+use mathlib.Core.Bool.{Bool, true, false}
+
+pub data Answer (A : Type 0) : Type 0 where
+  figures : A → Answer A
+  refused : ℕ → Answer A
+
+-- Weighs one rule: where it is broken the answer is that refusal, and else the rest decides.
+-- Rules nest from the lowest number on, so the lowest number that applies is given.
+abbrev pub weigh : {A : Type 0} → Bool → ℕ → Answer A → Answer A
+weigh true n rest = rest
+weigh false n rest = refused n

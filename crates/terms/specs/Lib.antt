@@ -1,0 +1,6 @@
+-- The definitions that contracts cite, in reading order, and their laws.
+pub mod Answer
+pub mod Refusals
+pub mod Ranges
+pub mod Bools
+pub mod RangeLaws

@@ -1,0 +1,43 @@
+-- What a figure in its range is known to be, as orders of numbers. Each range is equivalent to its test.
+-- Assumes nothing.
+use Prim.Native.Nat.{ℕ, _≤_}
+use native.Mathlib.Omega.{arith}
+use mathlib.Core.Path.{_≡_}
+use mathlib.Core.Bool.{true, _&&_}
+use lib.Dec.{leb}
+use borrow.Author.Tests.{leb-true, le-leb}
+use Rattle.terms.specs.declared.Factor.{Factor}
+use Rattle.terms.specs.declared.Bucket.{Bucket}
+use Rattle.terms.specs.Ranges.{factorOk, bucketOk, periodsOk}
+use Rattle.terms.specs.Bools.{and-both, both-and}
+
+pub record FactorRange (f : Factor) : Type 0 where
+  pub part : f .p ≤ f .q
+  pub some : 1 ≤ f .q
+  pub few : f .q ≤ 1000
+
+pub factor-range : (f : Factor) → factorOk f ≡ true → FactorRange f
+factor-range f h =
+    let k = and-both (leb (f .p) (f .q) && leb 1 (f .q)) (leb (f .q) 1000) h in
+    let l = and-both (leb (f .p) (f .q)) (leb 1 (f .q)) (k .0) in
+    omega (arith, leb-true)
+
+pub factor-ok : (f : Factor) → FactorRange f → factorOk f ≡ true
+factor-ok f k = both-and (both-and (le-leb _ _ (k .part)) (le-leb _ _ (k .some))) (le-leb _ _ (k .few))
+
+pub record BucketRange (b : Bucket) : Type 0 where
+  pub rates : b .rate .0 ≤ 4095
+  pub depths : b .depth .0 ≤ 1000000
+
+pub bucket-range : (b : Bucket) → bucketOk b ≡ true → BucketRange b
+bucket-range b h = let k = and-both (leb (b .rate .0) 4095) (leb (b .depth .0) 1000000) h in omega (arith, leb-true)
+
+pub bucket-ok : (b : Bucket) → BucketRange b → bucketOk b ≡ true
+bucket-ok b k = both-and (le-leb _ _ (k .rates)) (le-leb _ _ (k .depths))
+
+pub record PeriodsRange (n : ℕ) : Type 0 where
+  pub some : 1 ≤ n
+  pub few : n ≤ 512
+
+pub periods-range : (n : ℕ) → periodsOk n ≡ true → PeriodsRange n
+periods-range n h = let k = and-both (leb 1 n) (leb n 512) h in omega (arith, leb-true)

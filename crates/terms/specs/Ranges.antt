@@ -1,0 +1,26 @@
+-- The ranges of the figures (01, "The tariff and its ranges"). Each limit stands here once.
+-- Assumes nothing.
+use Prim.Native.Nat.{ℕ}
+use mathlib.Core.Bool.{Bool, _&&_}
+use lib.Dec.{leb}
+use Rattle.terms.specs.declared.Factor.{Factor}
+use Rattle.terms.specs.declared.Bucket.{Bucket}
+use Rattle.terms.specs.declared.Tariff.{Tariff}
+
+-- p 0..q; q 1..1,000
+abbrev pub factorOk : Factor → Bool
+factorOk f = leb (f .p) (f .q) && leb 1 (f .q) && leb (f .q) 1000
+
+-- rate at most 4,095 and depth at most 1,000,000: a bucket for a trial or a meter, or in a plan, and the caps of a tariff
+abbrev pub bucketOk : Bucket → Bool
+bucketOk b = leb (b .rate .0) 4095 && leb (b .depth .0) 1000000
+
+-- rate price and depth price 0..65,535; setup fee 0..1,000,000,000; the factor; the caps
+abbrev pub tariffOk : Tariff → Bool
+tariffOk t =
+    leb (t .«rate_price» .0) 65535 && leb (t .«depth_price» .0) 65535 && leb (t .fee) 1000000000 && factorOk (t .factor)
+    && bucketOk (record { rate = t .«rate_cap»; depth = t .«depth_cap» })
+
+-- T is 1..512
+abbrev pub periodsOk : ℕ → Bool
+periodsOk n = leb 1 n && leb n 512

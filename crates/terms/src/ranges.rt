@@ -1,0 +1,49 @@
+// The ranges of a factor, a bucket and a tariff.
+use crate::Bucket;
+use crate::Factor;
+use crate::Tariff;
+ghost use mathlib.Core.Path.{_≡_};
+ghost use Rattle.terms.specs.Ranges.{factorOk, bucketOk, tariffOk, periodsOk};
+
+const RATE_LIMIT: u32 = 4095;
+const DEPTH_LIMIT: u32 = 1_000_000;
+const PRICE_LIMIT: u32 = 65_535;
+const FEE_LIMIT: u32 = 1_000_000_000;
+const PARTS_LIMIT: u32 = 1000;
+const PERIODS_LIMIT: usize = 512;
+
+// Whether q is 1 to 1,000 and p at most q.
+pub fn factor_in_range(f: Factor) -> bool
+    ensures { λ r. ⌜ r ≡ factorOk f ⌝ }
+{
+    (f.p <= f.q) & (1 <= f.q) & (f.q <= PARTS_LIMIT)
+}
+
+// Whether the rate is at most 4,095 and the depth at most 1,000,000.
+pub fn bucket_in_range(b: Bucket) -> bool
+    ensures { λ r. ⌜ r ≡ bucketOk b ⌝ }
+{
+    (b.rate.0 <= RATE_LIMIT) & (b.depth.0 <= DEPTH_LIMIT)
+}
+
+// Whether each of the seven figures is in its range.
+pub fn tariff_in_range(t: Tariff) -> bool
+    ensures { λ r. ⌜ r ≡ tariffOk t ⌝ }
+{
+    let rate = t.rate_cap;
+    let depth = t.depth_cap;
+    let factor = t.factor;
+    let caps = Bucket { rate, depth };
+    (t.rate_price.0 <= PRICE_LIMIT)
+        & (t.depth_price.0 <= PRICE_LIMIT)
+        & (t.fee <= FEE_LIMIT)
+        & factor_in_range(factor)
+        & bucket_in_range(caps)
+}
+
+// Whether a trace, or a run, may have n periods: 1 to 512.
+pub fn periods_in_range(n: usize) -> bool
+    ensures { λ r. ⌜ r ≡ periodsOk n ⌝ }
+{
+    (1 <= n) & (n <= PERIODS_LIMIT)
+}
