@@ -8,7 +8,7 @@ use lib.Dec.{leb}
 use borrow.Author.Tests.{leb-true, le-leb}
 use Rattle.terms.specs.declared.Factor.{Factor}
 use Rattle.terms.specs.declared.Bucket.{Bucket}
-use Rattle.terms.specs.Ranges.{factorOk, bucketOk, periodsOk}
+use Rattle.terms.specs.Ranges.{factorOk, bucketOk, freshOk, periodsOk}
 use Rattle.terms.specs.Bools.{and-both, both-and}
 
 pub record FactorRange (f : Factor) : Type 0 where
@@ -34,6 +34,18 @@ bucket-range b h = let k = and-both (leb (b .rate .0) 4095) (leb (b .depth .0) 1
 
 pub bucket-ok : (b : Bucket) → BucketRange b → bucketOk b ≡ true
 bucket-ok b k = both-and (le-leb _ _ (k .rates)) (le-leb _ _ (k .depths))
+
+pub record FreshRange (b : Bucket) (f : Factor) : Type 0 where
+  pub bucket : BucketRange b
+  pub factor : FactorRange f
+
+pub fresh-range : (b : Bucket) (f : Factor) → freshOk b f ≡ true → FreshRange b f
+fresh-range b f h =
+    let k = and-both (bucketOk b) (factorOk f) h in
+    record { bucket = bucket-range b (k .0); factor = factor-range f (k .1) }
+
+pub fresh-ok : (b : Bucket) (f : Factor) → FreshRange b f → freshOk b f ≡ true
+fresh-ok b f k = both-and (bucket-ok b (k .bucket)) (factor-ok f (k .factor))
 
 pub record PeriodsRange (n : ℕ) : Type 0 where
   pub some : 1 ≤ n

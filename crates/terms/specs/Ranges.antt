@@ -15,11 +15,15 @@ factorOk f = leb (f .p) (f .q) && leb 1 (f .q) && leb (f .q) 1000
 abbrev pub bucketOk : Bucket → Bool
 bucketOk b = leb (b .rate .0) 4095 && leb (b .depth .0) 1000000
 
--- rate price and depth price 0..65,535; setup fee 0..1,000,000,000; the factor; the caps
+-- a bucket that can be set up fresh with a factor
+abbrev pub freshOk : Bucket → Factor → Bool
+freshOk b f = bucketOk b && factorOk f
+
+-- rate price and depth price 0..65,535; setup fee 0..1,000,000,000; rate cap and depth cap as in a bucket; the factor
 abbrev pub tariffOk : Tariff → Bool
 tariffOk t =
-    leb (t .«rate_price» .0) 65535 && leb (t .«depth_price» .0) 65535 && leb (t .fee) 1000000000 && factorOk (t .factor)
-    && bucketOk (record { rate = t .«rate_cap»; depth = t .«depth_cap» })
+    leb (t .«rate_price» .0) 65535 && leb (t .«depth_price» .0) 65535 && leb (t .fee) 1000000000
+    && freshOk (record { rate = t .«rate_cap»; depth = t .«depth_cap» }) (t .factor)
 
 -- T is 1..512
 abbrev pub periodsOk : ℕ → Bool

@@ -5,10 +5,11 @@ mod refusal;
 
 pub use ranges::bucket_in_range;
 pub use ranges::factor_in_range;
+pub use ranges::fresh_in_range;
 pub use ranges::periods_in_range;
 pub use ranges::tariff_in_range;
-pub use refusal::number;
 pub use refusal::Refusal;
+pub use refusal::number;
 
 // Tokens gained in each period. One token pays for one kilobit.
 pub struct Rate(pub u32);

@@ -3,13 +3,18 @@ use crate::Bucket;
 use crate::Factor;
 use crate::Tariff;
 ghost use mathlib.Core.Path.{_≡_};
-ghost use Rattle.terms.specs.Ranges.{factorOk, bucketOk, tariffOk, periodsOk};
+ghost use Rattle.terms.specs.Ranges.{factorOk, bucketOk, freshOk, tariffOk, periodsOk};
 
 const RATE_LIMIT: u32 = 4095;
+
 const DEPTH_LIMIT: u32 = 1_000_000;
+
 const PRICE_LIMIT: u32 = 65_535;
+
 const FEE_LIMIT: u32 = 1_000_000_000;
+
 const PARTS_LIMIT: u32 = 1000;
+
 const PERIODS_LIMIT: usize = 512;
 
 // Whether q is 1 to 1,000 and p at most q.
@@ -26,6 +31,13 @@ pub fn bucket_in_range(b: Bucket) -> bool
     (b.rate.0 <= RATE_LIMIT) & (b.depth.0 <= DEPTH_LIMIT)
 }
 
+// Whether a bucket can be set up fresh with a factor: both are in their ranges.
+pub fn fresh_in_range(b: Bucket, f: Factor) -> bool
+    ensures { λ r. ⌜ r ≡ freshOk b f ⌝ }
+{
+    bucket_in_range(b) & factor_in_range(f)
+}
+
 // Whether each of the seven figures is in its range.
 pub fn tariff_in_range(t: Tariff) -> bool
     ensures { λ r. ⌜ r ≡ tariffOk t ⌝ }
@@ -37,8 +49,7 @@ pub fn tariff_in_range(t: Tariff) -> bool
     (t.rate_price.0 <= PRICE_LIMIT)
         & (t.depth_price.0 <= PRICE_LIMIT)
         & (t.fee <= FEE_LIMIT)
-        & factor_in_range(factor)
-        & bucket_in_range(caps)
+        & fresh_in_range(caps, factor)
 }
 
 // Whether a trace, or a run, may have n periods: 1 to 512.
