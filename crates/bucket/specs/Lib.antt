@@ -2,4 +2,6 @@
 pub mod Step
 pub mod Trace
 pub mod Trial
+pub mod Meter
 pub mod Laws
+pub mod MeterLaws

@@ -1,0 +1,89 @@
+-- Laws of the meter.
+-- Assumes nothing.
+use Prim.Native.Nat.{ℕ, _+_, _*_, _≤_, _<_}
+use native.Mathlib.Omega.{arith}
+use native.Mathlib.Nat.{mul-add, mul-le-mul}
+use mathlib.Core.Path.{_≡_, refl, sym, ap, _∙_}
+use mathlib.Core.Bool.{Bool, true, false, _&&_}
+use borrow.Author.Tests.{leb-true, le-leb, eqb-true, eq-eqb, lt-ltb, le-ltb}
+use lib.Dec.{leb, ltb, eqb}
+use Rattle.terms.specs.Answer.{Answer, figures, refused, weigh}
+use Rattle.terms.specs.Bools.{and-both, both-and}
+use Rattle.terms.specs.Ranges.{freshOk}
+use Rattle.terms.specs.RangeLaws.{FreshRange, fresh-range, fresh-ok}
+use Rattle.bucket.specs.declared.meters.Meter.{Meter}
+use Rattle.bucket.specs.Step.{startOf, sent, over, held, lost, periodOf}
+use Rattle.bucket.specs.Trace.{heldAfter, sumOf, sentAll, overAll, lostAll, carriesFrom, carries}
+use Rattle.bucket.specs.Laws.{start-le, conservation, carried-over, over-carried}
+use Rattle.bucket.specs.Meter.{meterPeriods, totalLimit, countsOk, balanced, meterOk, offerOf, recordAfter, freshMeter, afterOffers, keptIf, accepted}
+
+pub record CountsRange (m : Meter) : Type 0 where
+  pub holds : m .held ≤ m .bucket .depth .0
+  pub times : m .periods ≤ 1000000
+  pub sents : m .sent ≤ 100000000000
+  pub overs : m .over ≤ 100000000000
+  pub losts : m .lost ≤ 100000000000
+  pub paced : m .over ≤ 65535 * m .periods
+
+pub counts-range : (m : Meter) → countsOk m ≡ true → CountsRange m
+counts-range m h =
+    let e = and-both (leb (m .held) (m .bucket .depth .0) && leb (m .periods) meterPeriods && leb (m .sent) totalLimit && leb (m .over) totalLimit && leb (m .lost) totalLimit) (leb (m .over) (65535 * m .periods)) h in
+    let d = and-both (leb (m .held) (m .bucket .depth .0) && leb (m .periods) meterPeriods && leb (m .sent) totalLimit && leb (m .over) totalLimit) (leb (m .lost) totalLimit) (e .0) in
+    let c = and-both (leb (m .held) (m .bucket .depth .0) && leb (m .periods) meterPeriods && leb (m .sent) totalLimit) (leb (m .over) totalLimit) (d .0) in
+    let b = and-both (leb (m .held) (m .bucket .depth .0) && leb (m .periods) meterPeriods) (leb (m .sent) totalLimit) (c .0) in
+    let a = and-both (leb (m .held) (m .bucket .depth .0)) (leb (m .periods) meterPeriods) (b .0) in
+    omega (arith, leb-true)
+
+pub counts-ok : (m : Meter) → CountsRange m → countsOk m ≡ true
+counts-ok m k =
+    both-and (both-and (both-and (both-and (both-and (le-leb _ _ (k .holds)) (le-leb _ _ (k .times))) (le-leb _ _ (k .sents))) (le-leb _ _ (k .overs))) (le-leb _ _ (k .losts))) (le-leb _ _ (k .paced))
+
+-- A record that breaks none of the rules of refusal 8, as orders and an equation of numbers.
+pub record Sound (m : Meter) : Type 0 where
+  pub fresh : FreshRange (m .bucket) (m .factor)
+  pub counts : CountsRange m
+  pub balance : startOf (m .factor .p) (m .factor .q) (m .bucket .depth .0) + m .bucket .rate .0 * m .periods ≡ m .sent + m .lost + m .held
+
+pub meter-sound : (m : Meter) → meterOk m ≡ true → Sound m
+unfolding meterOk
+meter-sound m h =
+    let b = and-both (freshOk (m .bucket) (m .factor) && countsOk m) (balanced m) h in
+    let a = and-both (freshOk (m .bucket) (m .factor)) (countsOk m) (b .0) in
+    record { fresh = fresh-range _ _ (a .0); counts = counts-range m (a .1); balance = eqb-true _ _ (b .1) }
+
+pub sound-meter : (m : Meter) → Sound m → meterOk m ≡ true
+unfolding meterOk
+sound-meter m k = both-and (both-and (fresh-ok _ _ (k .fresh)) (counts-ok m (k .counts))) (eq-eqb _ _ (k .balance))
+
+-- ---- One offer
+
+module _ (m : Meter) (d : ℕ) where
+  pub offer-broken : meterOk m ≡ false → offerOf m d ≡ refused 8
+  unfolding offerOf
+  offer-broken h = rw h
+
+  pub offer-full : meterOk m ≡ true → 1000000 ≤ m .periods → offerOf m d ≡ refused 9
+  unfolding offerOf
+  offer-full h k = rw (h, le-ltb (m .periods) 1000000 k)
+
+  pub offer-taken : meterOk m ≡ true → m .periods < 1000000
+      → offerOf m d ≡ figures (periodOf (m .bucket .rate .0) (m .bucket .depth .0) (m .held) d)
+  unfolding offerOf
+  offer-taken h k = rw (h, lt-ltb (m .periods) 1000000 k)
+
+-- An accepted offer keeps a record sound: what it brings is what it sends, loses and leaves.
+taken-sound : (m : Meter) (d : ℕ) → Sound m → m .periods < 1000000 → d ≤ 65535
+    → Sound (recordAfter m (figures (periodOf (m .bucket .rate .0) (m .bucket .depth .0) (m .held) d)))
+taken-sound m d k l h =
+    let r = m .bucket .rate .0 in
+    let B = m .bucket .depth .0 in
+    let s = sent r (m .held) d in
+    let e : startOf (m .factor .p) (m .factor .q) B + r * (m .periods + 1) ≡ m .sent + s + (m .lost + lost r B (m .held) d) + held r B (m .held) d =
+    omega (arith, k .balance, mul-add r (m .periods) 1) in
+    let g : r * (m .periods + 1) ≤ 4095 * 1000000 = mul-le-mul (k .fresh .bucket .rates) (omega arith) in
+    let z : startOf (m .factor .p) (m .factor .q) B ≤ 1000000 = omega (arith, start-le (m .factor .p) (m .factor .q) B (k .fresh .factor .part), k .fresh .bucket .depths) in
+    record {
+      fresh = k .fresh;
+      counts = ?c;
+      balance = e;
+    }

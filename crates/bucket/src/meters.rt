@@ -1,0 +1,151 @@
+// The meter: a bucket run a period at a time on what is offered, with running totals.
+use crate::period::Period;
+use crate::period::starting_tokens;
+use crate::period::step;
+use terms::Bucket;
+use terms::Factor;
+use terms::Refusal;
+use terms::fresh_in_range;
+ghost use mathlib.Core.Path.{_≡_};
+ghost use Prim.Native.Nat.{_≤_, _<_};
+ghost use Rattle.terms.specs.RangeLaws.{FreshRange};
+ghost use Rattle.terms.specs.Answer.{figures};
+ghost use Rattle.bucket.specs.Meter.{countsOk, balanced, meterOk, openOf, openSays, recordAfter, Answered};
+ghost use Rattle.bucket.specs.MeterLaws.{CountsRange};
+
+const METER_PERIODS: u32 = 1_000_000;
+
+const TOTAL_LIMIT: u64 = 100_000_000_000;
+
+const DEMAND_LIMIT: u64 = 65_535;
+
+// A meter's record: the bucket and the factor it was set up with, the tokens it holds, the periods
+// so far, and what was sent, over (discarded) and lost in all of them.
+pub struct Meter {
+    pub bucket: Bucket,
+    pub factor: Factor,
+    pub held: u32,
+    pub periods: u32,
+    pub sent: u64,
+    pub over: u64,
+    pub lost: u64,
+}
+
+pub enum MeterAnswer {
+    Opened(Meter),
+    Refused(Refusal),
+}
+
+pub enum OfferAnswer {
+    Taken(Period),
+    Refused(Refusal),
+}
+
+// What an offer gives: the record after it, and the offer's own period or the refusal.
+pub struct Offered {
+    pub meter: Meter,
+    pub answer: OfferAnswer,
+}
+
+// A meter on a fresh bucket. Refuses 5.
+pub fn open_meter(bucket: Bucket, factor: Factor) -> MeterAnswer
+    ensures { λ r. ⌜ openSays r ≡ openOf bucket factor ⌝ }
+{
+    if !fresh_in_range(bucket, factor) {
+        return MeterAnswer::Refused(Refusal::Figure);
+    }
+    let held = starting_tokens(bucket, factor);
+    MeterAnswer::Opened(Meter {
+        bucket,
+        factor,
+        held,
+        periods: 0,
+        sent: 0,
+        over: 0,
+        lost: 0,
+    })
+}
+
+// One period with an offer of kilobits, on any record at all. Refuses 8 and 9, and then the record
+// comes back as it was.
+pub fn offer(meter: Meter, demand: u16) -> Offered
+    ensures { λ r. ⌜ Answered meter demand r ⌝ }
+{
+    if !record_in_order(meter) {
+        return Offered {
+            meter,
+            answer: OfferAnswer::Refused(Refusal::Meter),
+        };
+    }
+    if METER_PERIODS <= meter.periods {
+        return Offered {
+            meter,
+            answer: OfferAnswer::Refused(Refusal::Full),
+        };
+    }
+    let bucket = meter.bucket;
+    let period = step(bucket, meter.held, demand);
+    let next = counted(meter, period);
+    Offered {
+        meter: next,
+        answer: OfferAnswer::Taken(period),
+    }
+}
+
+// The record with one more period in each total.
+fn counted(m: Meter, period: Period) -> Meter
+    requires { ⌜ CountsRange m ⌝ }
+    requires { ⌜ m .periods < 1000000 ⌝ }
+    ensures { λ r. ⌜ r ≡ recordAfter m (figures period) ⌝ }
+{
+    let bucket = m.bucket;
+    let factor = m.factor;
+    Meter {
+        bucket,
+        factor,
+        held: period.held,
+        periods: m.periods + 1,
+        sent: m.sent + period.sent as u64,
+        over: m.over + period.over as u64,
+        lost: m.lost + period.lost as u64,
+    }
+}
+
+// Whether a record breaks none of the rules of refusal 8.
+fn record_in_order(m: Meter) -> bool
+    ensures { λ r. ⌜ r ≡ meterOk m ⌝ }
+{
+    let bucket = m.bucket;
+    let factor = m.factor;
+    if !fresh_in_range(bucket, factor) {
+        return false;
+    }
+    if !counts_in_range(m) {
+        return false;
+    }
+    balances(m)
+}
+
+fn counts_in_range(m: Meter) -> bool
+    ensures { λ r. ⌜ r ≡ countsOk m ⌝ }
+{
+    (m.held <= m.bucket.depth.0)
+        & (m.periods <= METER_PERIODS)
+        & (m.sent <= TOTAL_LIMIT)
+        & (m.over <= TOTAL_LIMIT)
+        & (m.lost <= TOTAL_LIMIT)
+        & (m.over <= DEMAND_LIMIT * m.periods as u64)
+}
+
+// Whether the starting tokens and the rate of each period are what was sent, lost and is held.
+fn balances(m: Meter) -> bool
+    requires { ⌜ FreshRange (m .bucket) (m .factor) ⌝ }
+    requires { ⌜ CountsRange m ⌝ }
+    ensures { λ r. ⌜ r ≡ balanced m ⌝ }
+{
+    let bucket = m.bucket;
+    let factor = m.factor;
+    let start = starting_tokens(bucket, factor);
+    let gained = m.bucket.rate.0 as u64 * m.periods as u64;
+    start as u64 + gained == m.sent + m.lost + m.held as u64
+}
