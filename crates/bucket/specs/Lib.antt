@@ -5,3 +5,4 @@ pub mod Trial
 pub mod Meter
 pub mod Laws
 pub mod MeterLaws
+pub mod MeterRuns

@@ -1,12 +1,17 @@
 -- Laws of the meter.
 -- Assumes nothing.
-use Prim.Native.Nat.{ℕ, _+_, _*_, _≤_, _<_}
+use Prim.Native.Nat.{ℕ, suc, _+_, _-_, _*_, _≤_, _<_, min}
 use native.Mathlib.Omega.{arith}
-use native.Mathlib.Nat.{mul-add, mul-le-mul}
+use native.Mathlib.Nat.{add-assoc, mul-add, mul-le-mul}
 use mathlib.Core.Path.{_≡_, refl, sym, ap, _∙_}
 use mathlib.Core.Bool.{Bool, true, false, _&&_}
-use borrow.Author.Tests.{leb-true, le-leb, eqb-true, eq-eqb, lt-ltb, le-ltb}
+use borrow.Author.Tests.{leb-true, le-leb, eqb-true, eq-eqb, lt-ltb, le-ltb, ltb-true, ltb-false}
 use lib.Dec.{leb, ltb, eqb}
+use mathlib.Core.List.{List, [], _∷_}
+use lib.ListN.{length, getD, take, length-take}
+use lib.Seq.{take-all, take-nil}
+use Rattle.terms.specs.declared.Bucket.{Bucket}
+use Rattle.terms.specs.declared.Factor.{Factor}
 use Rattle.terms.specs.Answer.{Answer, figures, refused, weigh}
 use Rattle.terms.specs.Bools.{and-both, both-and}
 use Rattle.terms.specs.Ranges.{freshOk}
@@ -71,19 +76,34 @@ module _ (m : Meter) (d : ℕ) where
   unfolding offerOf
   offer-taken h k = rw (h, lt-ltb (m .periods) 1000000 k)
 
+pub sound-never-8 : (m : Meter) (d : ℕ) → Sound m → offerOf m d ≡ refused 8 → ⊥
+sound-never-8 m d k e = go (ltb (m .periods) 1000000) refl
+  where
+    go : (b : Bool) → ltb (m .periods) 1000000 ≡ b → ⊥
+    go true t = let x = offer-taken m d (sound-meter m k) (ltb-true _ _ t) in let z : _≡_ {A = ℕ} 0 1 = cc in omega arith
+    go false t = let x = offer-full m d (sound-meter m k) (ltb-false _ _ t) in let z : _≡_ {A = ℕ} 8 9 = cc in omega arith
+
 -- An accepted offer keeps a record sound: what it brings is what it sends, loses and leaves.
-taken-sound : (m : Meter) (d : ℕ) → Sound m → m .periods < 1000000 → d ≤ 65535
+pub taken-sound : (m : Meter) (d : ℕ) → Sound m → m .periods < 1000000 → d ≤ 65535
     → Sound (recordAfter m (figures (periodOf (m .bucket .rate .0) (m .bucket .depth .0) (m .held) d)))
 taken-sound m d k l h =
     let r = m .bucket .rate .0 in
     let B = m .bucket .depth .0 in
-    let s = sent r (m .held) d in
-    let e : startOf (m .factor .p) (m .factor .q) B + r * (m .periods + 1) ≡ m .sent + s + (m .lost + lost r B (m .held) d) + held r B (m .held) d =
-    omega (arith, k .balance, mul-add r (m .periods) 1) in
-    let g : r * (m .periods + 1) ≤ 4095 * 1000000 = mul-le-mul (k .fresh .bucket .rates) (omega arith) in
-    let z : startOf (m .factor .p) (m .factor .q) B ≤ 1000000 = omega (arith, start-le (m .factor .p) (m .factor .q) B (k .fresh .factor .part), k .fresh .bucket .depths) in
+    let start = startOf (m .factor .p) (m .factor .q) B in
+    let e : start + r * (m .periods + 1) ≡ m .sent + sent r (m .held) d + (m .lost + lost r B (m .held) d) + held r B (m .held) d =
+        omega (arith, k .balance, mul-add r (m .periods) 1) in
+    let n : m .periods + 1 ≤ 1000000 = omega arith in
+    let g : r * (m .periods + 1) ≤ 4095 * 1000000 = mul-le-mul (k .fresh .bucket .rates) n in
+    let z : start ≤ 1000000 = omega (arith, start-le (m .factor .p) (m .factor .q) B (k .fresh .factor .part), k .fresh .bucket .depths) in
     record {
       fresh = k .fresh;
-      counts = ?c;
+      counts = record {
+        holds = omega arith;
+        times = n;
+        sents = omega (arith, e);
+        overs = omega (arith, k .counts .paced);
+        losts = omega (arith, e);
+        paced = omega (arith, k .counts .paced);
+      };
       balance = e;
     }

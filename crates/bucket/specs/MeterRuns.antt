@@ -1,0 +1,171 @@
+-- Laws of the meter over a list of offers: what it accepts, its totals, its balance, and when it refuses.
+-- One induction over the offers, from any sound record; an opened meter is the case of a fresh one.
+-- Assumes nothing.
+use Prim.Native.Nat.{ℕ, suc, _+_, _-_, _*_, _≤_, _<_, min}
+use native.Mathlib.Omega.{arith}
+use native.Mathlib.Nat.{add-assoc, mul-add, mul-le-mul}
+use mathlib.Core.Path.{_≡_, refl, sym, ap, _∙_}
+use mathlib.Core.Bool.{Bool, true, false, _&&_}
+use borrow.Author.Tests.{leb-true, le-leb, eqb-true, eq-eqb, lt-ltb, le-ltb, ltb-true, ltb-false}
+use lib.Dec.{leb, ltb, eqb}
+use mathlib.Core.List.{List, [], _∷_}
+use lib.ListN.{length, getD, take, length-take}
+use lib.Seq.{take-all, take-nil}
+use Rattle.terms.specs.declared.Bucket.{Bucket}
+use Rattle.terms.specs.declared.Factor.{Factor}
+use Rattle.terms.specs.Answer.{Answer, figures, refused, weigh}
+use Rattle.terms.specs.Bools.{and-both, both-and}
+use Rattle.terms.specs.Ranges.{freshOk}
+use Rattle.terms.specs.RangeLaws.{FreshRange, fresh-range, fresh-ok}
+use Rattle.bucket.specs.declared.meters.Meter.{Meter}
+use Rattle.bucket.specs.Step.{startOf, sent, over, held, lost, periodOf}
+use Rattle.bucket.specs.Trace.{heldAfter, sumOf, sentAll, overAll, lostAll, carriesFrom, carries}
+use Rattle.bucket.specs.Laws.{start-le, conservation, carried-over, over-carried}
+use Rattle.bucket.specs.Meter.{meterPeriods, totalLimit, countsOk, balanced, meterOk, offerOf, recordAfter, freshMeter, afterOffers, keptIf, accepted}
+use Rattle.bucket.specs.MeterLaws.{Sound, sound-meter, offer-full, offer-taken, taken-sound, sound-never-8}
+
+-- Each demand is a 16-bit number.
+pub record Demands (ds : List ℕ) : Type 0 where
+  pub each : (i : ℕ) → getD ds i 0 ≤ 65535
+
+rest-demands : (d : ℕ) (ds : List ℕ) → Demands (d ∷ ds) → Demands ds
+rest-demands d ds h = record { each = λ i. h .each (suc i) }
+
+-- The record m once the demands ds have all been accepted: each figure is that of the definitions, on top of what it was.
+abbrev pub advanced : Meter → List ℕ → Meter
+advanced m ds =
+    let r = m .bucket .rate .0 in
+    let B = m .bucket .depth .0 in
+    record {
+      bucket = m .bucket;
+      factor = m .factor;
+      held = heldAfter r B (m .held) ds;
+      periods = m .periods + length ds;
+      sent = m .sent + sentAll r B (m .held) ds;
+      over = m .over + overAll r B (m .held) ds;
+      lost = m .lost + lostAll r B (m .held) ds;
+    }
+
+meter-by : (b : Bucket) (f : Factor) (y n n′ s s′ o o′ l l′ : ℕ) → n ≡ n′ → s ≡ s′ → o ≡ o′ → l ≡ l′
+    → _≡_ {A = Meter} (record { bucket = b; factor = f; held = y; periods = n; sent = s; over = o; lost = l })
+        (record { bucket = b; factor = f; held = y; periods = n′; sent = s′; over = o′; lost = l′ })
+meter-by b f y n n′ s s′ o o′ l l′ en es eo el = cc
+
+advanced-none : (m : Meter) → m ≡ advanced m []
+unfolding heldAfter sumOf
+advanced-none m = meter-by _ _ _ _ _ _ _ _ _ _ _ (omega arith) (omega arith) (omega arith) (omega arith)
+
+advanced-more : (m : Meter) (d : ℕ) (ds : List ℕ)
+    → advanced (recordAfter m (figures (periodOf (m .bucket .rate .0) (m .bucket .depth .0) (m .held) d))) ds ≡ advanced m (d ∷ ds)
+unfolding heldAfter sumOf
+advanced-more m d ds = meter-by _ _ _ _ _ _ _ _ _ _ _ (omega arith) (add-assoc _ _ _) (add-assoc _ _ _) (add-assoc _ _ _)
+
+-- What any list of offers does to a sound record: it stays sound, takes offers until it is full, and counts just those.
+pub record Metered (m : Meter) (ds : List ℕ) : Type 0 where
+  pub sound : Sound (afterOffers m ds)
+  pub accepts : accepted m ds ≡ take (1000000 - m .periods) ds
+  pub records : afterOffers m ds ≡ advanced m (take (1000000 - m .periods) ds)
+
+module _ (m : Meter) (d : ℕ) (ds : List ℕ) (k : Sound m) where
+  metered-taken : m .periods < 1000000 → Metered (recordAfter m (figures (periodOf (m .bucket .rate .0) (m .bucket .depth .0) (m .held) d))) ds
+      → Metered m (d ∷ ds)
+  unfolding afterOffers accepted
+  metered-taken l g =
+      let e = offer-taken m d (sound-meter m k) l in
+      let n : 1000000 - m .periods ≡ suc (1000000 - (m .periods + 1)) = omega arith in
+      record {
+        sound = rw e (g .sound);
+        accepts = rw (e, n) (ap (d ∷_) (g .accepts));
+        records = rw (e, n) (g .records ∙ advanced-more m d (take (1000000 - (m .periods + 1)) ds));
+      }
+
+  metered-full : 1000000 ≤ m .periods → Metered m ds → Metered m (d ∷ ds)
+  unfolding afterOffers accepted
+  metered-full l g =
+      let e = offer-full m d (sound-meter m k) l in
+      let n : 1000000 - m .periods ≡ 0 = omega arith in
+      record { sound = rw e (g .sound); accepts = rw (e, n) (rw n at (g .accepts)); records = rw (e, n) (rw n at (g .records)) }
+
+pub metered : (m : Meter) (ds : List ℕ) → Sound m → Demands ds → Metered m ds
+unfolding afterOffers accepted
+metered m [] k h = record { sound = k; accepts = sym (take-nil (1000000 - m .periods)); records = rw (take-nil {A = ℕ} (1000000 - m .periods)) (advanced-none m) }
+metered m (d ∷ ds) k h =
+    go (ltb (m .periods) 1000000) refl (λ l. metered _ ds (taken-sound m d k l (h .each 0)) (rest-demands d ds h)) (metered m ds k (rest-demands d ds h))
+  where
+    go : (b : Bool) → ltb (m .periods) 1000000 ≡ b
+        → (m .periods < 1000000 → Metered (recordAfter m (figures (periodOf (m .bucket .rate .0) (m .bucket .depth .0) (m .held) d))) ds)
+        → Metered m ds → Metered m (d ∷ ds)
+    go true e next same = let l = ltb-true _ _ e in metered-taken m d ds k l (next l)
+    go false e next same = metered-full m d ds k (ltb-false _ _ e) same
+
+-- ---- An opened meter
+
+-- The record of a meter opened on (b, f) that has accepted the demands ds: its figures are those of the definitions.
+abbrev pub meterOn : Bucket → Factor → List ℕ → Meter
+meterOn b f ds =
+    let y = startOf (f .p) (f .q) (b .depth .0) in
+    record {
+      bucket = b;
+      factor = f;
+      held = heldAfter (b .rate .0) (b .depth .0) y ds;
+      periods = length ds;
+      sent = sentAll (b .rate .0) (b .depth .0) y ds;
+      over = overAll (b .rate .0) (b .depth .0) y ds;
+      lost = lostAll (b .rate .0) (b .depth .0) y ds;
+    }
+
+module _ (b : Bucket) (f : Factor) (range : FreshRange b f) where
+  pub opened-sound : Sound (freshMeter b f)
+  opened-sound =
+      let B = b .depth .0 in
+      let z : startOf (f .p) (f .q) B ≤ B = start-le (f .p) (f .q) B (range .factor .part) in
+      record {
+        fresh = range;
+        counts = record { holds = z; times = omega arith; sents = omega arith; overs = omega arith; losts = omega arith; paced = omega arith };
+        balance = omega arith;
+      }
+
+  module _ (ds : List ℕ) (h : Demands ds) where
+    all : Metered (freshMeter b f) ds
+    all = metered (freshMeter b f) ds opened-sound h
+
+    -- It accepts the first 1,000,000 offers and refuses the others.
+    pub opened-accepts : accepted (freshMeter b f) ds ≡ take 1000000 ds
+    opened-accepts = all .accepts
+
+    -- Each total is the sum over the accepted offers.
+    pub opened-totals : afterOffers (freshMeter b f) ds ≡ meterOn b f (take 1000000 ds)
+    opened-totals = all .records ∙ meter-by _ _ _ _ _ _ _ _ _ _ _ (omega arith) (omega arith) (omega arith) (omega arith)
+
+    -- starting tokens + r × periods = sent + lost + tokens held
+    pub opened-balance : let m = afterOffers (freshMeter b f) ds in
+        startOf (f .p) (f .q) (b .depth .0) + b .rate .0 * m .periods ≡ m .sent + m .lost + m .held
+    opened-balance = rw opened-totals (conservation (b .rate .0) (b .depth .0) (startOf (f .p) (f .q) (b .depth .0)) (take 1000000 ds))
+
+    periods-are : afterOffers (freshMeter b f) ds .periods ≡ min 1000000 (length ds)
+    periods-are = ap (λ (m : Meter). m .periods) opened-totals ∙ length-take 1000000 ds
+
+    -- It meets refusal 9 exactly after 1,000,000 periods, and refusal 8 never.
+    pub opened-full : (d : ℕ) → 1000000 ≤ length ds → offerOf (afterOffers (freshMeter b f) ds) d ≡ refused 9
+    opened-full d l = offer-full _ d (sound-meter _ (all .sound)) (omega (arith, periods-are))
+
+    pub opened-takes : (d : ℕ) → length ds < 1000000 → let m = afterOffers (freshMeter b f) ds in
+        offerOf m d ≡ figures (periodOf (b .rate .0) (b .depth .0) (m .held) d)
+    opened-takes d l =
+        offer-taken _ d (sound-meter _ (all .sound)) (omega (arith, periods-are))
+        ∙ ap (λ (m : Meter). figures (periodOf (m .bucket .rate .0) (m .bucket .depth .0) (afterOffers (freshMeter b f) ds .held) d)) opened-totals
+
+    pub opened-never-8 : (d : ℕ) → offerOf (afterOffers (freshMeter b f) ds) d ≡ refused 8 → ⊥
+    opened-never-8 d e = sound-never-8 _ d (all .sound) e
+
+    -- On a trace of at most 1,000,000 periods its over total is 0 exactly when the bucket carries the trace.
+    over-is : length ds ≤ 1000000 → afterOffers (freshMeter b f) ds .over ≡ overAll (b .rate .0) (b .depth .0) (startOf (f .p) (f .q) (b .depth .0)) ds
+    over-is l = rw (opened-totals, take-all 1000000 ds l)
+
+    pub opened-carries : length ds ≤ 1000000 → carries (f .p) (f .q) (b .rate .0) (b .depth .0) ds ≡ true
+        → afterOffers (freshMeter b f) ds .over ≡ 0
+    opened-carries l k = over-is l ∙ carried-over _ _ _ ds k
+
+    pub carries-opened : length ds ≤ 1000000 → afterOffers (freshMeter b f) ds .over ≡ 0
+        → carries (f .p) (f .q) (b .rate .0) (b .depth .0) ds ≡ true
+    carries-opened l k = over-carried _ _ _ ds (sym (over-is l) ∙ k)
