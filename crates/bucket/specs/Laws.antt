@@ -1,19 +1,19 @@
 -- Laws of the bucket: conservation, what carrying is equivalent to, and what it is monotone in.
 -- Each goes by induction over the periods, with arithmetic for one period.
 -- Assumes nothing.
-use Prim.Native.Nat.{ℕ, zero, suc, _+_, _-_, _*_, _/_, _≤_, _<_, min}
+use Prim.Native.Nat.{ℕ, zero, suc, _+_, _-_, _*_, _≤_, _<_}
 use native.Mathlib.Omega.{arith}
 use native.Mathlib.Nat.{add-zero, sub-zero, mul-suc, div-le-of-le-mul, mul-le-mul-right, mul-le-mul-left, div-zero, le-div-iff-mul-le, div-mul-le-self, le-trans, le-refl, min-eq-left, le-min}
-use mathlib.Core.Path.{_≡_, refl, sym, ap, _∙_}
+use mathlib.Core.Path.{_≡_, refl, sym, _∙_}
 use mathlib.Core.Bool.{Bool, true, false, _&&_, and-true, and-assoc, cond}
 use mathlib.Core.List.{List, [], _∷_}
-use borrow.Author.Tests.{eqb-true, eq-eqb, ne-eqb, ltb-true, ltb-false, leb-true, leb-false, le-leb}
+use borrow.Author.Tests.{eqb-true, eq-eqb, ne-eqb, ltb-true, ltb-false}
 use lib.Dec.{eqb, leb, ltb, leb·suc-zero}
 use lib.ListN.{length}
 use lib.IntN.{ℤ, pos, negsuc, subℕ, _-ℤ_}
-use lib.Signed.{nonNeg, leZ}
+use lib.Signed.{nonNeg}
 use Rattle.terms.specs.Bools.{and-both, both-and}
-use Rattle.bucket.specs.Step.{startOf, sent, over, left, held, lost}
+use Rattle.bucket.specs.Step.{startOf, over, held}
 use Rattle.bucket.specs.Trace.{heldAfter, sumOf, sentAll, overAll, lostAll, carriesFrom, carries, gap, gaps, minZ, leastOf, spareFrom}
 
 -- Starting tokens plus r for each period is what was sent, lost and is still held.

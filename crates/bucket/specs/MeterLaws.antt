@@ -1,26 +1,20 @@
 -- Laws of the meter.
 -- Assumes nothing.
-use Prim.Native.Nat.{ℕ, suc, _+_, _-_, _*_, _≤_, _<_, min}
+use Prim.Native.Nat.{ℕ, _+_, _*_, _≤_, _<_}
 use native.Mathlib.Omega.{arith}
-use native.Mathlib.Nat.{add-assoc, mul-add, mul-le-mul}
-use mathlib.Core.Path.{_≡_, refl, sym, ap, _∙_}
+use native.Mathlib.Nat.{mul-add, mul-le-mul}
+use mathlib.Core.Path.{_≡_, refl}
 use mathlib.Core.Bool.{Bool, true, false, _&&_}
 use borrow.Author.Tests.{leb-true, le-leb, eqb-true, eq-eqb, lt-ltb, le-ltb, ltb-true, ltb-false}
-use lib.Dec.{leb, ltb, eqb}
-use mathlib.Core.List.{List, [], _∷_}
-use lib.ListN.{length, getD, take, length-take}
-use lib.Seq.{take-all, take-nil}
-use Rattle.terms.specs.declared.Bucket.{Bucket}
-use Rattle.terms.specs.declared.Factor.{Factor}
-use Rattle.terms.specs.Answer.{Answer, figures, refused, weigh}
+use lib.Dec.{leb, ltb}
+use Rattle.terms.specs.Answer.{figures, refused}
 use Rattle.terms.specs.Bools.{and-both, both-and}
 use Rattle.terms.specs.Ranges.{freshOk}
 use Rattle.terms.specs.RangeLaws.{FreshRange, fresh-range, fresh-ok}
 use Rattle.bucket.specs.declared.meters.Meter.{Meter}
 use Rattle.bucket.specs.Step.{startOf, sent, over, held, lost, periodOf}
-use Rattle.bucket.specs.Trace.{heldAfter, sumOf, sentAll, overAll, lostAll, carriesFrom, carries}
-use Rattle.bucket.specs.Laws.{start-le, conservation, carried-over, over-carried}
-use Rattle.bucket.specs.Meter.{meterPeriods, totalLimit, countsOk, balanced, meterOk, offerOf, recordAfter, freshMeter, afterOffers, keptIf, accepted}
+use Rattle.bucket.specs.Laws.{start-le}
+use Rattle.bucket.specs.Meter.{meterPeriods, totalLimit, countsOk, balanced, meterOk, offerOf, recordAfter}
 
 pub record CountsRange (m : Meter) : Type 0 where
   pub holds : m .held ≤ m .bucket .depth .0

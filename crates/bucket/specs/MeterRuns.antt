@@ -3,25 +3,23 @@
 -- Assumes nothing.
 use Prim.Native.Nat.{ℕ, suc, _+_, _-_, _*_, _≤_, _<_, min}
 use native.Mathlib.Omega.{arith}
-use native.Mathlib.Nat.{add-assoc, mul-add, mul-le-mul}
+use native.Mathlib.Nat.{add-assoc}
 use mathlib.Core.Path.{_≡_, refl, sym, ap, _∙_}
-use mathlib.Core.Bool.{Bool, true, false, _&&_}
-use borrow.Author.Tests.{leb-true, le-leb, eqb-true, eq-eqb, lt-ltb, le-ltb, ltb-true, ltb-false}
-use lib.Dec.{leb, ltb, eqb}
+use mathlib.Core.Bool.{Bool, true, false}
+use borrow.Author.Tests.{ltb-true, ltb-false}
+use lib.Dec.{ltb}
 use mathlib.Core.List.{List, [], _∷_}
 use lib.ListN.{length, getD, take, length-take}
 use lib.Seq.{take-all, take-nil}
 use Rattle.terms.specs.declared.Bucket.{Bucket}
 use Rattle.terms.specs.declared.Factor.{Factor}
-use Rattle.terms.specs.Answer.{Answer, figures, refused, weigh}
-use Rattle.terms.specs.Bools.{and-both, both-and}
-use Rattle.terms.specs.Ranges.{freshOk}
-use Rattle.terms.specs.RangeLaws.{FreshRange, fresh-range, fresh-ok}
+use Rattle.terms.specs.Answer.{figures, refused}
+use Rattle.terms.specs.RangeLaws.{FreshRange}
 use Rattle.bucket.specs.declared.meters.Meter.{Meter}
 use Rattle.bucket.specs.Step.{startOf, sent, over, held, lost, periodOf}
-use Rattle.bucket.specs.Trace.{heldAfter, sumOf, sentAll, overAll, lostAll, carriesFrom, carries}
+use Rattle.bucket.specs.Trace.{heldAfter, sumOf, sentAll, overAll, lostAll, carries}
 use Rattle.bucket.specs.Laws.{start-le, conservation, carried-over, over-carried}
-use Rattle.bucket.specs.Meter.{meterPeriods, totalLimit, countsOk, balanced, meterOk, offerOf, recordAfter, freshMeter, afterOffers, keptIf, accepted}
+use Rattle.bucket.specs.Meter.{offerOf, recordAfter, freshMeter, afterOffers, accepted}
 use Rattle.bucket.specs.MeterLaws.{Sound, sound-meter, offer-full, offer-taken, taken-sound, sound-never-8}
 
 -- Each demand is a 16-bit number.

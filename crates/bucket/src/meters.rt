@@ -7,7 +7,7 @@ use terms::Factor;
 use terms::Refusal;
 use terms::fresh_in_range;
 ghost use mathlib.Core.Path.{_≡_};
-ghost use Prim.Native.Nat.{_≤_, _<_};
+ghost use Prim.Native.Nat.{_<_};
 ghost use Rattle.terms.specs.RangeLaws.{FreshRange};
 ghost use Rattle.terms.specs.Answer.{figures};
 ghost use Rattle.bucket.specs.Meter.{countsOk, balanced, meterOk, openOf, openSays, recordAfter, Answered};

@@ -5,9 +5,6 @@ use native.Mathlib.Nat.{mul-le-mul}
 use borrow.Author.Needs.{needs}
 use Rattle.bucket.proofs.meters.balances.Statement.{statement}
 use Rattle.bucket.proofs.meters.balances.Tie as tie
-use Rattle.bucket.proofs.meters.balances.Reads as reads
-use Rattle.bucket.proofs.meters.balances.Lts as lts
-use Rattle.bucket.proofs.period.starting_tokens.Reads as starting-tokens-reads
 
 starting-tokens-requires : tie.Need-starting-tokens-requires
 starting-tokens-requires c κs = search needs

@@ -1,6 +1,6 @@
 -- Each return is one of the three cases of the offer's definition, and the record follows its answer.
 use native.Mathlib.Omega.{arith}
-use mathlib.Core.Path.{_≡_, refl, sym, ap, _∙_}
+use mathlib.Core.Path.{_≡_, sym, _∙_}
 use mathlib.Core.Bool.{true}
 use borrow.Author.Tests.{not-true, not-false}
 use Rattle.bucket.specs.Meter.{meterOk}
@@ -8,11 +8,6 @@ use Rattle.bucket.specs.MeterLaws.{meter-sound, offer-broken, offer-full
 use borrow.Author.Needs.{needs}
 use Rattle.bucket.proofs.meters.offer.Statement.{statement}
 use Rattle.bucket.proofs.meters.offer.Tie as tie
-use Rattle.bucket.proofs.meters.offer.Reads as reads
-use Rattle.bucket.proofs.meters.offer.Lts as lts
-use Rattle.bucket.proofs.meters.counted.Reads as counted-reads
-use Rattle.bucket.proofs.meters.record_in_order.Reads as record-in-order-reads
-use Rattle.bucket.proofs.period.step.Reads as step-reads
 
 record-in-order-requires : tie.Need-record-in-order-requires
 record-in-order-requires c κs = search needs

@@ -7,10 +7,6 @@ use Rattle.terms.specs.RangeLaws.{fresh-range}
 use borrow.Author.Needs.{needs}
 use Rattle.bucket.proofs.meters.open_meter.Statement.{statement}
 use Rattle.bucket.proofs.meters.open_meter.Tie as tie
-use Rattle.bucket.proofs.meters.open_meter.Reads as reads
-use Rattle.bucket.proofs.meters.open_meter.Lts as lts
-use Rattle.bucket.proofs.period.starting_tokens.Reads as starting-tokens-reads
-use Rattle.terms.proofs.fresh_in_range.Reads as fresh-in-range-reads
 
 fresh-in-range-requires : tie.Need-fresh-in-range-requires
 fresh-in-range-requires c κs = search needs

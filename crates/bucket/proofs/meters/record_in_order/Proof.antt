@@ -9,11 +9,6 @@ use Rattle.bucket.specs.MeterLaws.{counts-range}
 use borrow.Author.Needs.{needs}
 use Rattle.bucket.proofs.meters.record_in_order.Statement.{statement}
 use Rattle.bucket.proofs.meters.record_in_order.Tie as tie
-use Rattle.bucket.proofs.meters.record_in_order.Reads as reads
-use Rattle.bucket.proofs.meters.record_in_order.Lts as lts
-use Rattle.bucket.proofs.meters.balances.Reads as balances-reads
-use Rattle.bucket.proofs.meters.counts_in_range.Reads as counts-in-range-reads
-use Rattle.terms.proofs.fresh_in_range.Reads as fresh-in-range-reads
 
 fresh-in-range-requires : tie.Need-fresh-in-range-requires
 fresh-in-range-requires c κs = search needs

@@ -19,12 +19,6 @@ use Rattle.bucket.specs.Trial.{trialFigures}
 use Rattle.bucket.proofs.Walking.{Walking, walking-start, walking-step, over-end, spare-end}
 use Rattle.bucket.proofs.trials.figures.Statement.{statement}
 use Rattle.bucket.proofs.trials.figures.Tie as tie
-use Rattle.bucket.proofs.trials.figures.Reads as reads
-use Rattle.bucket.proofs.trials.figures.Lts as lts
-use Rattle.bucket.proofs.period.starting_tokens.Reads as starting-tokens-reads
-use Rattle.bucket.proofs.period.step.Reads as step-reads
-use Rattle.bucket.proofs.trials.lesser.Reads as lesser-reads
-use Rattle.bucket.proofs.trials.to_spare.Reads as to-spare-reads
 
 -- a trial is known by its parts
 figures-by : (b : Bucket) (f : Factor) (ds : List ℕ) (y : ℕ) (z : ℤ) (n : ℕ) → y ≡ startOf (f .p) (f .q) (b .depth .0)
