@@ -1,0 +1,3 @@
+-- The lettered figures of document 01.
+pub mod Rows
+pub mod Table

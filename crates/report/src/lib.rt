@@ -1,0 +1,61 @@
+// What the test programs print, a field at a time. For them alone: no contract can say what a
+// program writes, so each program's output is held to a stored one.
+use bucket::OfferAnswer;
+use bucket::Offered;
+use bucket::TrialAnswer;
+use libc::STDOUT_FILENO;
+ghost use mathlib.Core.Path.{_≡_};
+ghost use lib.IntN.{natAbs};
+use terms::Refusal;
+
+// Words as they stand.
+pub fn words(text: &[u8]) {
+    io::write_all(STDOUT_FILENO, text);
+}
+
+// A space and a number.
+pub fn number(n: u64) {
+    words(b" ");
+    io::print_decimal(STDOUT_FILENO, n);
+}
+
+// A space and a signed number.
+pub fn signed(z: i64) {
+    if z < 0 {
+        words(b" -");
+        io::print_decimal(STDOUT_FILENO, magnitude(z));
+    } else {
+        number(magnitude(z));
+    }
+}
+
+// A signed number without its sign.
+fn magnitude(z: i64) -> u64
+    ensures { λ r. ⌜ r ≡ natAbs z ⌝ }
+{
+    if z < 0 { !z as u64 + 1 } else { z as u64 }
+}
+
+pub fn end_line() {
+    words(b"\n");
+}
+
+// The word refused and the number.
+pub fn refusal(x: Refusal) {
+    words(b" refused");
+    number(terms::number(x) as u64);
+}
+
+// Spare and discards, or the refusal.
+pub fn trial(a: TrialAnswer) {
+    match a {
+        TrialAnswer::Found(t) => {
+            words(b" spare");
+            signed(t.spare);
+            words(b" over");
+            number(t.over as u64);
+        }
+        TrialAnswer::Refused(x) => refusal(x),
+    }
+    end_line();
+}
