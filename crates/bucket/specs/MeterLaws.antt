@@ -85,7 +85,7 @@ taken-sound m d k l h =
     let B = m .bucket .depth .0 in
     let start = startOf (m .factor .p) (m .factor .q) B in
     let e : start + r * (m .periods + 1) ≡ m .sent + sent r (m .held) d + (m .lost + lost r B (m .held) d) + held r B (m .held) d =
-        omega (arith, k .balance, mul-add r (m .periods) 1) in
+    omega (arith, k .balance, mul-add r (m .periods) 1) in
     let n : m .periods + 1 ≤ 1000000 = omega arith in
     let g : r * (m .periods + 1) ≤ 4095 * 1000000 = mul-le-mul (k .fresh .bucket .rates) n in
     let z : start ≤ 1000000 = omega (arith, start-le (m .factor .p) (m .factor .q) B (k .fresh .factor .part), k .fresh .bucket .depths) in

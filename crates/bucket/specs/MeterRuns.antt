@@ -46,7 +46,7 @@ advanced m ds =
 
 meter-by : (b : Bucket) (f : Factor) (y n n′ s s′ o o′ l l′ : ℕ) → n ≡ n′ → s ≡ s′ → o ≡ o′ → l ≡ l′
     → _≡_ {A = Meter} (record { bucket = b; factor = f; held = y; periods = n; sent = s; over = o; lost = l })
-        (record { bucket = b; factor = f; held = y; periods = n′; sent = s′; over = o′; lost = l′ })
+    (record { bucket = b; factor = f; held = y; periods = n′; sent = s′; over = o′; lost = l′ })
 meter-by b f y n n′ s s′ o o′ l l′ en es eo el = cc
 
 advanced-none : (m : Meter) → m ≡ advanced m []

@@ -13,7 +13,13 @@ fn main() {
 // A meter of rate 5 and depth 4, offered 4, 8, 2 and 9: sent, over, lost, tokens held.
 fn row_j() {
     report::words(b"J");
-    let a = bucket::open_meter(Bucket { rate: Rate(5), depth: Depth(4) }, Factor { p: 1, q: 2 });
+    let a = bucket::open_meter(
+        Bucket {
+            rate: Rate(5),
+            depth: Depth(4),
+        },
+        Factor { p: 1, q: 2 },
+    );
     match a {
         MeterAnswer::Opened(m) => {
             let m = bucket::offer(m, 4).meter;
@@ -34,5 +40,12 @@ fn row_j() {
 fn row_k() {
     let trace: [u16; 3] = [4, 8, 2];
     report::words(b"K");
-    report::trial(bucket::trial(Bucket { rate: Rate(5), depth: Depth(3) }, Factor { p: 1, q: 2 }, &trace));
+    report::trial(bucket::trial(
+        Bucket {
+            rate: Rate(5),
+            depth: Depth(3),
+        },
+        Factor { p: 1, q: 2 },
+        &trace,
+    ));
 }
