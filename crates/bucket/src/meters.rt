@@ -77,15 +77,15 @@ pub fn offer(meter: Meter, demand: u16) -> Offered
             answer: OfferAnswer::Refused(Refusal::Meter),
         };
     }
-    if METER_PERIODS <= meter.periods {
+    let bucket = meter.bucket;
+    let period = step(bucket, meter.held, demand);
+    let next = counted(meter, period);
+    if METER_PERIODS < next.periods {
         return Offered {
             meter,
             answer: OfferAnswer::Refused(Refusal::Full),
         };
     }
-    let bucket = meter.bucket;
-    let period = step(bucket, meter.held, demand);
-    let next = counted(meter, period);
     Offered {
         meter: next,
         answer: OfferAnswer::Taken(period),
@@ -95,7 +95,6 @@ pub fn offer(meter: Meter, demand: u16) -> Offered
 // The record with one more period in each total.
 fn counted(m: Meter, period: Period) -> Meter
     requires { ⌜ CountsRange m ⌝ }
-    requires { ⌜ m .periods < 1000000 ⌝ }
     ensures { λ r. ⌜ r ≡ recordAfter m (figures period) ⌝ }
 {
     let bucket = m.bucket;

@@ -67,7 +67,9 @@ fn to_spare(rate: Rate, held: u32, demand: u16) -> i64
     requires { ⌜ held ≤ 1000000 ⌝ }
     ensures { λ r. ⌜ r ≡ gap (rate .0) held demand ⌝ }
 {
-    (held + rate.0) as i64 - demand as i64
+    let tokens = (held + rate.0) as i64;
+    let wanted = demand as i64;
+    tokens - wanted
 }
 
 fn lesser(a: i64, b: i64) -> i64

@@ -1,4 +1,4 @@
--- Both numbers are far below 2 ^ 63, so the difference of the bits is the difference of the numbers.
+-- Both numbers are far below 2 ^ 63, so the difference of their bits is the difference of the numbers.
 use Prim.Native.Nat.{ℕ, suc, _+_, _-_, _<_, _^_}
 use native.Mathlib.Omega.{arith}
 use mathlib.Core.Path.{_≡_, refl, _∙_}
@@ -14,39 +14,34 @@ use Rattle.bucket.specs.Laws.{sub-is}
 use Rattle.bucket.proofs.trials.to_spare.Statement.{statement}
 use Rattle.bucket.proofs.trials.to_spare.Tie as tie
 
--- the difference of two numbers that fit a signed word
+-- the bits of two such numbers, and the numbers
 apart : (a b : ℕ) → a < 2 ^ 63 → b < 2 ^ 63 → toZ w64 a -ℤ toZ w64 b ≡ pos a -ℤ pos b
 apart a b h k = rw (toZ-pos w64 h, toZ-pos w64 k)
 
-apart-fits : (a b : ℕ) → a < 2 ^ 63 → b < 2 ^ 63 → SFits w64 (pos a -ℤ pos b)
-apart-fits a b h k = rw (sub-is a b) (go (ltb a b) refl)
+apart-fits : (a b : ℕ) → a < 2 ^ 63 → b < 2 ^ 63 → SFits w64 (toZ w64 a -ℤ toZ w64 b)
+apart-fits a b h k = rw (apart a b h k, sub-is a b) (go (ltb a b) refl)
   where
     go : (t : Bool) → ltb a b ≡ t → SFits w64 (cond t (negsuc (b - suc a)) (pos (a - b)))
     go true e = record { sfits = omega (arith, ltb-true) }
     go false e = record { sfits = omega arith }
 
-add-result : tie.Need-add-result
-add-result c = search needs
+add-tokens : tie.Need-add-tokens
+add-tokens c = search needs
 
-cast-result : tie.Need-cast-result
-cast-result c = search needs
+cast-tokens : tie.Need-cast-tokens
+cast-tokens c = search needs
 
-cast-result-2 : tie.Need-cast-result-2
-cast-result-2 c = search needs
+cast-wanted : tie.Need-cast-wanted
+cast-wanted c = search needs
+
+small : (c : tie.After-struct-known) → (c .before .args .held + c .before .args .rate .0 < 2 ^ 63) × (c .before .args .demand < 2 ^ 63)
+small c = omega arith
 
 sub-result : tie.Need-sub-result
-sub-result c =
-    let a = c .before .args in
-    let h : a .held + a .rate .0 < 2 ^ 63 = omega arith in
-    let k : a .demand < 2 ^ 63 = omega arith in
-    rw (apart _ _ h k) (apart-fits _ _ h k)
+sub-result c = search (apart-fits, small c)
 
 returns : tie.Need-returns
-returns c =
-    let a = c .before .args in
-    let h : a .held + a .rate .0 < 2 ^ 63 = omega arith in
-    let k : a .demand < 2 ^ 63 = omega arith in
-    toZ-ofZ (sub-result c) ∙ apart _ _ h k
+returns c = toZ-ofZ (sub-result c) ∙ apart _ _ (small c .0) (small c .1)
 
 pub to-spare-spec : {M : Type 1} → statement M
-to-spare-spec = tie.close (tie.spec add-result cast-result cast-result-2 sub-result returns)
+to-spare-spec = tie.close (tie.spec add-tokens cast-tokens cast-wanted sub-result returns)
