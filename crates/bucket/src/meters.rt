@@ -72,23 +72,27 @@ pub fn offer(meter: Meter, demand: u16) -> Offered
     ensures { λ r. ⌜ Answered meter demand r ⌝ }
 {
     if !record_in_order(meter) {
-        return Offered {
-            meter,
-            answer: OfferAnswer::Refused(Refusal::Meter),
-        };
+        return refuse(meter, Refusal::Meter);
     }
     let bucket = meter.bucket;
     let period = step(bucket, meter.held, demand);
     let next = counted(meter, period);
     if METER_PERIODS < next.periods {
-        return Offered {
-            meter,
-            answer: OfferAnswer::Refused(Refusal::Full),
-        };
+        return refuse(meter, Refusal::Full);
     }
     Offered {
         meter: next,
         answer: OfferAnswer::Taken(period),
+    }
+}
+
+// A refusal with the record that comes back.
+fn refuse(meter: Meter, why: Refusal) -> Offered
+    ensures { λ r. ⌜ r ≡ record { meter = meter; answer = OfferAnswer.Refused why } ⌝ }
+{
+    Offered {
+        meter,
+        answer: OfferAnswer::Refused(why),
     }
 }
 

@@ -14,11 +14,15 @@ use Rattle.bucket.proofs.meters.offer.Tie as tie
 record-in-order-requires : tie.Need-record-in-order-requires
 record-in-order-requires c κs = search needs
 
+refuse-requires : tie.Need-refuse-requires
+refuse-requires c κs = search needs
+
 returns : tie.Need-returns
 returns c =
-    let a = c .before .before .args in
-    let e = offer-broken (a .meter) (a .demand) (sym (c .before .record-in-order .ensures) ∙ not-true _ (c .if1 .taken)) in
-    record { answers = rw e; records = rw e }
+    let d = c .before .before in
+    let a = d .before .args in
+    let e = offer-broken (a .meter) (a .demand) (sym (d .record-in-order .ensures) ∙ not-true _ (c .before .if1 .taken)) in
+    record { answers = rw (e, c .refuse .ensures); records = rw (e, c .refuse .ensures) }
 
 -- past the first test
 in-order : (c : tie.Else1) → meterOk (c .before .before .args .meter) ≡ true
@@ -36,12 +40,15 @@ counted-requires c κs = meter-sound _ (in-order (c .before .before)) .counts
 one-more : (c : tie.After-counted) → c .counted .result .periods ≡ c .before .before .before .before .before .args .meter .periods + 1
 one-more c = ap (λ (m : Meter). m .periods) (c .counted .ensures)
 
+refuse-requires-2 : tie.Need-refuse-requires-2
+refuse-requires-2 c κs = search needs
+
 returns-2 : tie.Need-returns-2
 returns-2 c =
-    let d = c .before .before in
+    let d = c .before .before .before in
     let a = d .before .before .before .before .before .args in
-    let e = offer-full (a .meter) (a .demand) (in-order (d .before .before .before)) (omega (arith, one-more d, c .if2 .taken)) in
-    record { answers = rw e; records = rw e }
+    let e = offer-full (a .meter) (a .demand) (in-order (d .before .before .before)) (omega (arith, one-more d, c .before .if2 .taken)) in
+    record { answers = rw (e, c .refuse2 .ensures); records = rw (e, c .refuse2 .ensures) }
 
 returns-3 : tie.Need-returns-3
 returns-3 c =
@@ -54,4 +61,12 @@ returns-3 c =
 pub offer-spec : {M : Type 1} → statement M
 offer-spec =
     tie.close
-    (tie.spec record-in-order-requires returns step-requires counted-requires returns-2 returns-3)
+    (tie.spec
+    record-in-order-requires
+    refuse-requires
+    returns
+    step-requires
+    counted-requires
+    refuse-requires-2
+    returns-2
+    returns-3)
