@@ -6,14 +6,16 @@ use native.Mathlib.Omega.{arith}
 use native.Mathlib.Nat.{add-zero, sub-zero, mul-suc, div-le-of-le-mul, mul-le-mul-right, mul-le-mul-left, div-zero, le-div-iff-mul-le, div-mul-le-self, le-trans, le-refl, min-eq-left, le-min}
 use mathlib.Core.Path.{_≡_, refl, sym, _∙_}
 use mathlib.Core.Bool.{Bool, true, false, _&&_, and-true, and-assoc, cond}
-use mathlib.Core.List.{List, [], _∷_}
+use mathlib.Core.List.{List, [], _∷_, List·Memᴰ, List·Memᴰ·cases-cons, List·Memᴰ·not-nil}
+use mathlib.Core.Logic.{⊎-elim}
 use borrow.Author.Tests.{eqb-true, eq-eqb, ne-eqb, ltb-true, ltb-false}
-use lib.Dec.{eqb, leb, ltb, leb·suc-zero}
+use lib.Dec.{eqb, ltb, leb·suc-zero}
 use lib.ListN.{length}
 use lib.IntN.{ℤ, pos, negsuc, subℕ, _-ℤ_}
-use lib.Signed.{nonNeg}
+use lib.Signed.{leZ, nonNeg}
 use Rattle.terms.specs.Bools.{and-both, both-and}
 use Rattle.bucket.specs.Step.{startOf, over, held}
+use Rattle.bucket.specs.Least.{min-nonneg, least-first, least-each, least-one}
 use Rattle.bucket.specs.Trace.{heldAfter, sumOf, sentAll, overAll, lostAll, carriesFrom, carries, gap, gaps, minZ, leastOf, spareFrom}
 
 -- Starting tokens plus r for each period is what was sent, lost and is still held.
@@ -97,20 +99,6 @@ gap-over r y d = rw (sub-is (y + r) d) (go (ltb (y + r) d) refl)
     go true h = sym (ne-eqb (over r y d) 0 (λ e. omega (arith, ltb-true)))
     go false h = sym (eq-eqb (over r y d) 0 (omega (arith, ltb-false)))
 
-min-nonneg : (a b : ℤ) → nonNeg (minZ a b) ≡ nonNeg a && nonNeg b
-min-nonneg (pos a) (pos b) = go (leb a b)
-  where
-    go : (t : Bool) → nonNeg (cond t (pos a) (pos b)) ≡ true
-    go true = refl
-    go false = refl
-min-nonneg (pos a) (negsuc b) = refl
-min-nonneg (negsuc a) (pos b) = refl
-min-nonneg (negsuc a) (negsuc b) = go (leb b a)
-  where
-    go : (t : Bool) → nonNeg (cond t (negsuc a) (negsuc b)) ≡ false
-    go true = refl
-    go false = refl
-
 least-gaps : (r B y : ℕ) (z : ℤ) (ds : List ℕ) → nonNeg (leastOf z (gaps r B y ds)) ≡ nonNeg z && carriesFrom r B y ds
 unfolding leastOf gaps carriesFrom
 least-gaps r B y z [] = sym (and-true (nonNeg z))
@@ -123,3 +111,16 @@ pub carried-spare : (r B y : ℕ) (ds : List ℕ) → nonNeg (spareFrom r B y ds
 unfolding spareFrom carriesFrom
 carried-spare r B y [] = refl
 carried-spare r B y (d ∷ ds) = least-gaps r B (held r B y d) (gap r y d) ds ∙ rw (gap-over r y d)
+
+-- Spare is at most y + r − d in each period, and equal to it in one: it is the least of them.
+
+pub spare-each : (r B y : ℕ) (ds : List ℕ) (x : ℤ) → List·Memᴰ x (gaps r B y ds) → leZ (spareFrom r B y ds) x ≡ true
+unfolding gaps spareFrom
+spare-each r B y [] x m = absurd (List·Memᴰ·not-nil m)
+spare-each r B y (d ∷ ds) x m =
+    ⊎-elim (λ e. rw e (least-first (gap r y d) (gaps r B (held r B y d) ds)))
+    (λ n. least-each (gap r y d) (gaps r B (held r B y d) ds) x n) (List·Memᴰ·cases-cons m)
+
+pub spare-one : (r B y d : ℕ) (ds : List ℕ) → List·Memᴰ (spareFrom r B y (d ∷ ds)) (gaps r B y (d ∷ ds))
+unfolding gaps spareFrom
+spare-one r B y d ds = least-one (gap r y d) (gaps r B (held r B y d) ds)

@@ -3,6 +3,7 @@ pub mod Step
 pub mod Trace
 pub mod Trial
 pub mod Meter
+pub mod Least
 pub mod Laws
 pub mod MeterLaws
 pub mod MeterRuns

@@ -3,7 +3,7 @@
 use Prim.Native.Nat.{ℕ, _+_, _*_, _≤_, _<_}
 use native.Mathlib.Omega.{arith}
 use native.Mathlib.Nat.{mul-add, mul-le-mul}
-use mathlib.Core.Path.{_≡_, refl}
+use mathlib.Core.Path.{_≡_, refl, ap}
 use mathlib.Core.Bool.{Bool, true, false, _&&_}
 use borrow.Author.Tests.{leb-true, le-leb, eqb-true, eq-eqb, lt-ltb, le-ltb, ltb-true, ltb-false}
 use lib.Dec.{leb, ltb}
@@ -69,6 +69,10 @@ module _ (m : Meter) (d : ℕ) where
       → offerOf m d ≡ figures (periodOf (m .bucket .rate .0) (m .bucket .depth .0) (m .held) d)
   unfolding offerOf
   offer-taken h k = rw (h, lt-ltb (m .periods) 1000000 k)
+
+-- A refused offer counts nowhere.
+pub offer-refused : (m : Meter) (d n : ℕ) → offerOf m d ≡ refused n → recordAfter m (offerOf m d) ≡ m
+offer-refused m d n e = ap (recordAfter m) e
 
 pub sound-never-8 : (m : Meter) (d : ℕ) → Sound m → offerOf m d ≡ refused 8 → ⊥
 sound-never-8 m d k e = go (ltb (m .periods) 1000000) refl

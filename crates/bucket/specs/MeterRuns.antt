@@ -9,7 +9,7 @@ use mathlib.Core.Bool.{Bool, true, false}
 use borrow.Author.Tests.{ltb-true, ltb-false}
 use lib.Dec.{ltb}
 use mathlib.Core.List.{List, [], _∷_}
-use lib.ListN.{length, getD, take, length-take}
+use lib.ListN.{length, take, length-take}
 use lib.Seq.{take-all, take-nil}
 use Rattle.terms.specs.declared.Bucket.{Bucket}
 use Rattle.terms.specs.declared.Factor.{Factor}
@@ -17,14 +17,10 @@ use Rattle.terms.specs.Answer.{figures, refused}
 use Rattle.terms.specs.RangeLaws.{FreshRange}
 use Rattle.bucket.specs.declared.meters.Meter.{Meter}
 use Rattle.bucket.specs.Step.{startOf, sent, over, held, lost, periodOf}
-use Rattle.bucket.specs.Trace.{heldAfter, sumOf, sentAll, overAll, lostAll, carries}
+use Rattle.bucket.specs.Trace.{Demands, heldAfter, sumOf, sentAll, overAll, lostAll, carries}
 use Rattle.bucket.specs.Laws.{start-le, conservation, carried-over, over-carried}
 use Rattle.bucket.specs.Meter.{offerOf, recordAfter, freshMeter, afterOffers, accepted}
 use Rattle.bucket.specs.MeterLaws.{Sound, sound-meter, offer-full, offer-taken, taken-sound, sound-never-8}
-
--- Each demand is a 16-bit number.
-pub record Demands (ds : List ℕ) : Type 0 where
-  pub each : (i : ℕ) → getD ds i 0 ≤ 65535
 
 rest-demands : (d : ℕ) (ds : List ℕ) → Demands (d ∷ ds) → Demands ds
 rest-demands d ds h = record { each = λ i. h .each (suc i) }

@@ -1,12 +1,17 @@
 -- What a trace of demands leaves in a bucket with rate r and depth B that holds y tokens (01, "The bucket").
 -- Assumes nothing.
-use Prim.Native.Nat.{ℕ, _+_}
+use Prim.Native.Nat.{ℕ, _+_, _≤_}
 use mathlib.Core.Bool.{Bool, true, cond, _&&_}
 use mathlib.Core.List.{List, [], _∷_}
 use lib.Dec.{eqb}
+use lib.ListN.{getD}
 use lib.IntN.{ℤ, pos, _-ℤ_}
 use lib.Signed.{leZ}
 use Rattle.bucket.specs.Step.{startOf, sent, over, held, lost}
+
+-- Each demand is 0 to 65,535, a 16-bit number. (Past the end of a list `getD` gives 0.)
+pub record Demands (ds : List ℕ) : Type 0 where
+  pub each : (i : ℕ) → getD ds i 0 ≤ 65535
 
 -- The tokens held after the last period.
 unfoldable pub heldAfter : ℕ → ℕ → ℕ → List ℕ → ℕ

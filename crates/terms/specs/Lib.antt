@@ -4,3 +4,4 @@ pub mod Refusals
 pub mod Ranges
 pub mod Bools
 pub mod RangeLaws
+pub mod RefusalLaws

@@ -7,7 +7,7 @@ use borrow.Author.Needs.{needs}
 use borrow.Author.Tests.{not-true, not-false}
 use Rattle.bucket.specs.declared.meters.Meter.{Meter}
 use Rattle.bucket.specs.Meter.{meterOk}
-use Rattle.bucket.specs.MeterLaws.{Sound, meter-sound, offer-broken, offer-full, offer-taken}
+use Rattle.bucket.specs.MeterLaws.{meter-sound, offer-broken, offer-full, offer-taken}
 use Rattle.bucket.proofs.meters.offer.Statement.{statement}
 use Rattle.bucket.proofs.meters.offer.Tie as tie
 
