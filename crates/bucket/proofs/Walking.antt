@@ -10,6 +10,7 @@ use lib.ListN.{length, getD, drop, drop-of-length-le}
 use lib.Seq.{drop-cons}
 use lib.IntN.{ℤ}
 use lib.Signed.{leZ}
+use Rattle.terms.specs.Limits.{demandLimit, depthLimit}
 use Rattle.bucket.specs.declared.period.Period.{Period}
 use Rattle.bucket.specs.Step.{over, held, periodOf}
 use Rattle.bucket.specs.Trace.{sumOf, overAll, gap, gaps, minZ, leastOf, spareFrom}
@@ -24,8 +25,8 @@ min-same z = go (leZ z z)
 module _ (r B y₀ : ℕ) (ds : List ℕ) where
   pub record Walking (y : ℕ) (least : ℤ) (sum i : ℕ) : Type 0 where
     pub inside : i ≤ length ds
-    pub tokens : y ≤ 1000000
-    pub small : sum ≤ 65535 * i
+    pub tokens : y ≤ depthLimit
+    pub small : sum ≤ demandLimit * i
     pub overs : sum + overAll r B y (drop i ds) ≡ overAll r B y₀ ds
     pub spares : leastOf least (gaps r B y (drop i ds)) ≡ spareFrom r B y₀ ds
 
@@ -34,12 +35,12 @@ unfolding leastOf gaps spareFrom
 spares-start r B y [] h = absurd (omega arith)
 spares-start r B y (d ∷ ds) h = ap (λ (z : ℤ). leastOf z (gaps r B (held r B y d) ds)) (min-same (gap r y d))
 
-pub walking-start : (r B y : ℕ) (ds : List ℕ) (z : ℤ) → y ≤ 1000000 → 1 ≤ length ds → z ≡ gap r y (getD ds 0 0) → Walking r B y ds y z 0 0
+pub walking-start : (r B y : ℕ) (ds : List ℕ) (z : ℤ) → y ≤ depthLimit → 1 ≤ length ds → z ≡ gap r y (getD ds 0 0) → Walking r B y ds y z 0 0
 walking-start r B y ds z h k e =
     record { inside = omega arith; tokens = h; small = omega arith; overs = omega arith; spares = rw e (spares-start r B y ds k) }
 
 module _ (r B y₀ : ℕ) (ds : List ℕ) (y : ℕ) (least : ℤ) (sum i : ℕ) (k : Walking r B y₀ ds y least sum i) where
-  pub walking-step : (p : Period) (z : ℤ) → B ≤ 1000000 → i < length ds → getD ds i 0 ≤ 65535 → p ≡ periodOf r B y (getD ds i 0)
+  pub walking-step : (p : Period) (z : ℤ) → B ≤ depthLimit → i < length ds → getD ds i 0 ≤ demandLimit → p ≡ periodOf r B y (getD ds i 0)
       → z ≡ minZ least (gap r y (getD ds i 0)) → Walking r B y₀ ds (p .held) z (sum + p .over) (i + 1)
   unfolding sumOf gaps leastOf
   walking-step p z b l h e f =

@@ -9,6 +9,7 @@ use Rattle.terms.specs.declared.Bucket.{Bucket}
 use Rattle.terms.specs.declared.Factor.{Factor}
 use Rattle.terms.specs.Answer.{Answer, figures, refused, weigh}
 use Rattle.terms.specs.Refusals.{numberOf}
+use Rattle.terms.specs.Limits.{demandLimit, meterLimit, totalLimit}
 use Rattle.terms.specs.Ranges.{freshOk}
 use Rattle.bucket.specs.declared.period.Period.{Period}
 use Rattle.bucket.specs.declared.meters.Meter.{Meter}
@@ -19,19 +20,11 @@ use Rattle.bucket.specs.declared.meters.OfferAnswer.the-variants as offe
 use Rattle.bucket.specs.declared.meters.Offered.{Offered}
 use Rattle.bucket.specs.Step.{startOf, periodOf}
 
--- A meter takes at most 1,000,000 periods.
-abbrev pub meterPeriods : ℕ
-meterPeriods = 1000000
-
--- No total of a record is above 100,000,000,000.
-abbrev pub totalLimit : ℕ
-totalLimit = 100000000000
-
 -- Tokens held, periods and totals within their limits.
 abbrev pub countsOk : Meter → Bool
 countsOk m =
-    leb (m .held) (m .bucket .depth .0) && leb (m .periods) meterPeriods && leb (m .sent) totalLimit && leb (m .over) totalLimit
-    && leb (m .lost) totalLimit && leb (m .over) (65535 * m .periods)
+    leb (m .held) (m .bucket .depth .0) && leb (m .periods) meterLimit && leb (m .sent) totalLimit && leb (m .over) totalLimit
+    && leb (m .lost) totalLimit && leb (m .over) (demandLimit * m .periods)
 
 -- starting tokens + r × periods = sent + lost + tokens held
 abbrev pub balanced : Meter → Bool
@@ -55,7 +48,7 @@ openOf b f = weigh (freshOk b f) 5 (figures (freshMeter b f))
 unfoldable pub offerOf : Meter → ℕ → Answer Period
 offerOf m d =
     weigh (meterOk m) 8
-    (weigh (ltb (m .periods) meterPeriods) 9 (figures (periodOf (m .bucket .rate .0) (m .bucket .depth .0) (m .held) d)))
+    (weigh (ltb (m .periods) meterLimit) 9 (figures (periodOf (m .bucket .rate .0) (m .bucket .depth .0) (m .held) d)))
 
 -- The record after an answered offer: an accepted one counts in each total, a refused one nowhere.
 abbrev pub recordAfter : Meter → Answer Period → Meter

@@ -7,6 +7,7 @@ use mathlib.Core.Path.{_≡_, refl, ap}
 use mathlib.Core.Bool.{Bool, true, false, _&&_}
 use borrow.Author.Tests.{leb-true, le-leb, eqb-true, eq-eqb, lt-ltb, le-ltb, ltb-true, ltb-false}
 use lib.Dec.{leb, ltb}
+use Rattle.terms.specs.Limits.{demandLimit, rateLimit, depthLimit, meterLimit, totalLimit}
 use Rattle.terms.specs.Answer.{figures, refused}
 use Rattle.terms.specs.Bools.{and-both, both-and}
 use Rattle.terms.specs.Ranges.{freshOk}
@@ -14,23 +15,23 @@ use Rattle.terms.specs.RangeLaws.{FreshRange, fresh-range, fresh-ok}
 use Rattle.bucket.specs.declared.meters.Meter.{Meter}
 use Rattle.bucket.specs.Step.{startOf, sent, over, held, lost, periodOf}
 use Rattle.bucket.specs.Laws.{start-le}
-use Rattle.bucket.specs.Meter.{meterPeriods, totalLimit, countsOk, balanced, meterOk, offerOf, recordAfter}
+use Rattle.bucket.specs.Meter.{countsOk, balanced, meterOk, offerOf, recordAfter}
 
 pub record CountsRange (m : Meter) : Type 0 where
   pub holds : m .held ≤ m .bucket .depth .0
-  pub times : m .periods ≤ 1000000
-  pub sents : m .sent ≤ 100000000000
-  pub overs : m .over ≤ 100000000000
-  pub losts : m .lost ≤ 100000000000
-  pub paced : m .over ≤ 65535 * m .periods
+  pub times : m .periods ≤ meterLimit
+  pub sents : m .sent ≤ totalLimit
+  pub overs : m .over ≤ totalLimit
+  pub losts : m .lost ≤ totalLimit
+  pub paced : m .over ≤ demandLimit * m .periods
 
 pub counts-range : (m : Meter) → countsOk m ≡ true → CountsRange m
 counts-range m h =
-    let e = and-both (leb (m .held) (m .bucket .depth .0) && leb (m .periods) meterPeriods && leb (m .sent) totalLimit && leb (m .over) totalLimit && leb (m .lost) totalLimit) (leb (m .over) (65535 * m .periods)) h in
-    let d = and-both (leb (m .held) (m .bucket .depth .0) && leb (m .periods) meterPeriods && leb (m .sent) totalLimit && leb (m .over) totalLimit) (leb (m .lost) totalLimit) (e .0) in
-    let c = and-both (leb (m .held) (m .bucket .depth .0) && leb (m .periods) meterPeriods && leb (m .sent) totalLimit) (leb (m .over) totalLimit) (d .0) in
-    let b = and-both (leb (m .held) (m .bucket .depth .0) && leb (m .periods) meterPeriods) (leb (m .sent) totalLimit) (c .0) in
-    let a = and-both (leb (m .held) (m .bucket .depth .0)) (leb (m .periods) meterPeriods) (b .0) in
+    let e = and-both (leb (m .held) (m .bucket .depth .0) && leb (m .periods) meterLimit && leb (m .sent) totalLimit && leb (m .over) totalLimit && leb (m .lost) totalLimit) (leb (m .over) (demandLimit * m .periods)) h in
+    let d = and-both (leb (m .held) (m .bucket .depth .0) && leb (m .periods) meterLimit && leb (m .sent) totalLimit && leb (m .over) totalLimit) (leb (m .lost) totalLimit) (e .0) in
+    let c = and-both (leb (m .held) (m .bucket .depth .0) && leb (m .periods) meterLimit && leb (m .sent) totalLimit) (leb (m .over) totalLimit) (d .0) in
+    let b = and-both (leb (m .held) (m .bucket .depth .0) && leb (m .periods) meterLimit) (leb (m .sent) totalLimit) (c .0) in
+    let a = and-both (leb (m .held) (m .bucket .depth .0)) (leb (m .periods) meterLimit) (b .0) in
     omega (arith, leb-true)
 
 pub counts-ok : (m : Meter) → CountsRange m → countsOk m ≡ true
@@ -61,28 +62,28 @@ module _ (m : Meter) (d : ℕ) where
   unfolding offerOf
   offer-broken h = rw h
 
-  pub offer-full : meterOk m ≡ true → 1000000 ≤ m .periods → offerOf m d ≡ refused 9
+  pub offer-full : meterOk m ≡ true → meterLimit ≤ m .periods → offerOf m d ≡ refused 9
   unfolding offerOf
-  offer-full h k = rw (h, le-ltb (m .periods) 1000000 k)
+  offer-full h k = rw (h, le-ltb (m .periods) meterLimit k)
 
-  pub offer-taken : meterOk m ≡ true → m .periods < 1000000
+  pub offer-taken : meterOk m ≡ true → m .periods < meterLimit
       → offerOf m d ≡ figures (periodOf (m .bucket .rate .0) (m .bucket .depth .0) (m .held) d)
   unfolding offerOf
-  offer-taken h k = rw (h, lt-ltb (m .periods) 1000000 k)
+  offer-taken h k = rw (h, lt-ltb (m .periods) meterLimit k)
 
 -- A refused offer counts nowhere.
 pub offer-refused : (m : Meter) (d n : ℕ) → offerOf m d ≡ refused n → recordAfter m (offerOf m d) ≡ m
 offer-refused m d n e = ap (recordAfter m) e
 
 pub sound-never-8 : (m : Meter) (d : ℕ) → Sound m → offerOf m d ≡ refused 8 → ⊥
-sound-never-8 m d k e = go (ltb (m .periods) 1000000) refl
+sound-never-8 m d k e = go (ltb (m .periods) meterLimit) refl
   where
-    go : (b : Bool) → ltb (m .periods) 1000000 ≡ b → ⊥
+    go : (b : Bool) → ltb (m .periods) meterLimit ≡ b → ⊥
     go true t = let x = offer-taken m d (sound-meter m k) (ltb-true _ _ t) in let z : _≡_ {A = ℕ} 0 1 = cc in omega arith
     go false t = let x = offer-full m d (sound-meter m k) (ltb-false _ _ t) in let z : _≡_ {A = ℕ} 8 9 = cc in omega arith
 
 -- An accepted offer keeps a record sound: what it brings is what it sends, loses and leaves.
-pub taken-sound : (m : Meter) (d : ℕ) → Sound m → m .periods < 1000000 → d ≤ 65535
+pub taken-sound : (m : Meter) (d : ℕ) → Sound m → m .periods < meterLimit → d ≤ demandLimit
     → Sound (recordAfter m (figures (periodOf (m .bucket .rate .0) (m .bucket .depth .0) (m .held) d)))
 taken-sound m d k l h =
     let r = m .bucket .rate .0 in
@@ -90,9 +91,9 @@ taken-sound m d k l h =
     let start = startOf (m .factor .p) (m .factor .q) B in
     let e : start + r * (m .periods + 1) ≡ m .sent + sent r (m .held) d + (m .lost + lost r B (m .held) d) + held r B (m .held) d =
     omega (arith, k .balance, mul-add r (m .periods) 1) in
-    let n : m .periods + 1 ≤ 1000000 = omega arith in
-    let g : r * (m .periods + 1) ≤ 4095 * 1000000 = mul-le-mul (k .fresh .bucket .rates) n in
-    let z : start ≤ 1000000 = omega (arith, start-le (m .factor .p) (m .factor .q) B (k .fresh .factor .part), k .fresh .bucket .depths) in
+    let n : m .periods + 1 ≤ meterLimit = omega arith in
+    let g : r * (m .periods + 1) ≤ rateLimit * meterLimit = mul-le-mul (k .fresh .bucket .rates) n in
+    let z : start ≤ depthLimit = omega (arith, start-le (m .factor .p) (m .factor .q) B (k .fresh .factor .part), k .fresh .bucket .depths) in
     record {
       fresh = k .fresh;
       counts = record {

@@ -13,6 +13,7 @@ use lib.ListN.{length, take, length-take}
 use lib.Seq.{take-all, take-nil}
 use Rattle.terms.specs.declared.Bucket.{Bucket}
 use Rattle.terms.specs.declared.Factor.{Factor}
+use Rattle.terms.specs.Limits.{meterLimit}
 use Rattle.terms.specs.Answer.{figures, refused}
 use Rattle.terms.specs.RangeLaws.{FreshRange}
 use Rattle.bucket.specs.declared.meters.Meter.{Meter}
@@ -57,37 +58,37 @@ advanced-more m d ds = meter-by _ _ _ _ _ _ _ _ _ _ _ (omega arith) (add-assoc _
 -- What any list of offers does to a sound record: it stays sound, takes offers until it is full, and counts just those.
 pub record Metered (m : Meter) (ds : List ℕ) : Type 0 where
   pub sound : Sound (afterOffers m ds)
-  pub accepts : accepted m ds ≡ take (1000000 - m .periods) ds
-  pub records : afterOffers m ds ≡ advanced m (take (1000000 - m .periods) ds)
+  pub accepts : accepted m ds ≡ take (meterLimit - m .periods) ds
+  pub records : afterOffers m ds ≡ advanced m (take (meterLimit - m .periods) ds)
 
 module _ (m : Meter) (d : ℕ) (ds : List ℕ) (k : Sound m) where
-  metered-taken : m .periods < 1000000 → Metered (recordAfter m (figures (periodOf (m .bucket .rate .0) (m .bucket .depth .0) (m .held) d))) ds
+  metered-taken : m .periods < meterLimit → Metered (recordAfter m (figures (periodOf (m .bucket .rate .0) (m .bucket .depth .0) (m .held) d))) ds
       → Metered m (d ∷ ds)
   unfolding afterOffers accepted
   metered-taken l g =
       let e = offer-taken m d (sound-meter m k) l in
-      let n : 1000000 - m .periods ≡ suc (1000000 - (m .periods + 1)) = omega arith in
+      let n : meterLimit - m .periods ≡ suc (meterLimit - (m .periods + 1)) = omega arith in
       record {
         sound = rw e (g .sound);
         accepts = rw (e, n) (ap (d ∷_) (g .accepts));
-        records = rw (e, n) (g .records ∙ advanced-more m d (take (1000000 - (m .periods + 1)) ds));
+        records = rw (e, n) (g .records ∙ advanced-more m d (take (meterLimit - (m .periods + 1)) ds));
       }
 
-  metered-full : 1000000 ≤ m .periods → Metered m ds → Metered m (d ∷ ds)
+  metered-full : meterLimit ≤ m .periods → Metered m ds → Metered m (d ∷ ds)
   unfolding afterOffers accepted
   metered-full l g =
       let e = offer-full m d (sound-meter m k) l in
-      let n : 1000000 - m .periods ≡ 0 = omega arith in
+      let n : meterLimit - m .periods ≡ 0 = omega arith in
       record { sound = rw e (g .sound); accepts = rw (e, n) (rw n at (g .accepts)); records = rw (e, n) (rw n at (g .records)) }
 
 pub metered : (m : Meter) (ds : List ℕ) → Sound m → Demands ds → Metered m ds
 unfolding afterOffers accepted
-metered m [] k h = record { sound = k; accepts = sym (take-nil (1000000 - m .periods)); records = rw (take-nil {A = ℕ} (1000000 - m .periods)) (advanced-none m) }
+metered m [] k h = record { sound = k; accepts = sym (take-nil (meterLimit - m .periods)); records = rw (take-nil {A = ℕ} (meterLimit - m .periods)) (advanced-none m) }
 metered m (d ∷ ds) k h =
-    go (ltb (m .periods) 1000000) refl (λ l. metered _ ds (taken-sound m d k l (h .each 0)) (rest-demands d ds h)) (metered m ds k (rest-demands d ds h))
+    go (ltb (m .periods) meterLimit) refl (λ l. metered _ ds (taken-sound m d k l (h .each 0)) (rest-demands d ds h)) (metered m ds k (rest-demands d ds h))
   where
-    go : (b : Bool) → ltb (m .periods) 1000000 ≡ b
-        → (m .periods < 1000000 → Metered (recordAfter m (figures (periodOf (m .bucket .rate .0) (m .bucket .depth .0) (m .held) d))) ds)
+    go : (b : Bool) → ltb (m .periods) meterLimit ≡ b
+        → (m .periods < meterLimit → Metered (recordAfter m (figures (periodOf (m .bucket .rate .0) (m .bucket .depth .0) (m .held) d))) ds)
         → Metered m ds → Metered m (d ∷ ds)
     go true e next same = let l = ltb-true _ _ e in metered-taken m d ds k l (next l)
     go false e next same = metered-full m d ds k (ltb-false _ _ e) same
@@ -124,26 +125,26 @@ module _ (b : Bucket) (f : Factor) (range : FreshRange b f) where
     all = metered (freshMeter b f) ds opened-sound h
 
     -- It accepts the first 1,000,000 offers and refuses the others.
-    pub opened-accepts : accepted (freshMeter b f) ds ≡ take 1000000 ds
+    pub opened-accepts : accepted (freshMeter b f) ds ≡ take meterLimit ds
     opened-accepts = all .accepts
 
     -- Each total is the sum over the accepted offers.
-    pub opened-totals : afterOffers (freshMeter b f) ds ≡ meterOn b f (take 1000000 ds)
+    pub opened-totals : afterOffers (freshMeter b f) ds ≡ meterOn b f (take meterLimit ds)
     opened-totals = all .records ∙ meter-by _ _ _ _ _ _ _ _ _ _ _ (omega arith) (omega arith) (omega arith) (omega arith)
 
     -- starting tokens + r × periods = sent + lost + tokens held
     pub opened-balance : let m = afterOffers (freshMeter b f) ds in
         startOf (f .p) (f .q) (b .depth .0) + b .rate .0 * m .periods ≡ m .sent + m .lost + m .held
-    opened-balance = rw opened-totals (conservation (b .rate .0) (b .depth .0) (startOf (f .p) (f .q) (b .depth .0)) (take 1000000 ds))
+    opened-balance = rw opened-totals (conservation (b .rate .0) (b .depth .0) (startOf (f .p) (f .q) (b .depth .0)) (take meterLimit ds))
 
-    periods-are : afterOffers (freshMeter b f) ds .periods ≡ min 1000000 (length ds)
-    periods-are = ap (λ (m : Meter). m .periods) opened-totals ∙ length-take 1000000 ds
+    periods-are : afterOffers (freshMeter b f) ds .periods ≡ min meterLimit (length ds)
+    periods-are = ap (λ (m : Meter). m .periods) opened-totals ∙ length-take meterLimit ds
 
     -- It meets refusal 9 exactly after 1,000,000 periods, and refusal 8 never.
-    pub opened-full : (d : ℕ) → 1000000 ≤ length ds → offerOf (afterOffers (freshMeter b f) ds) d ≡ refused 9
+    pub opened-full : (d : ℕ) → meterLimit ≤ length ds → offerOf (afterOffers (freshMeter b f) ds) d ≡ refused 9
     opened-full d l = offer-full _ d (sound-meter _ (all .sound)) (omega (arith, periods-are))
 
-    pub opened-takes : (d : ℕ) → length ds < 1000000 → let m = afterOffers (freshMeter b f) ds in
+    pub opened-takes : (d : ℕ) → length ds < meterLimit → let m = afterOffers (freshMeter b f) ds in
         offerOf m d ≡ figures (periodOf (b .rate .0) (b .depth .0) (m .held) d)
     opened-takes d l =
         offer-taken _ d (sound-meter _ (all .sound)) (omega (arith, periods-are))
@@ -153,13 +154,13 @@ module _ (b : Bucket) (f : Factor) (range : FreshRange b f) where
     opened-never-8 d e = sound-never-8 _ d (all .sound) e
 
     -- On a trace of at most 1,000,000 periods its over total is 0 exactly when the bucket carries the trace.
-    over-is : length ds ≤ 1000000 → afterOffers (freshMeter b f) ds .over ≡ overAll (b .rate .0) (b .depth .0) (startOf (f .p) (f .q) (b .depth .0)) ds
-    over-is l = rw (opened-totals, take-all 1000000 ds l)
+    over-is : length ds ≤ meterLimit → afterOffers (freshMeter b f) ds .over ≡ overAll (b .rate .0) (b .depth .0) (startOf (f .p) (f .q) (b .depth .0)) ds
+    over-is l = rw (opened-totals, take-all meterLimit ds l)
 
-    pub opened-carries : length ds ≤ 1000000 → carries (f .p) (f .q) (b .rate .0) (b .depth .0) ds ≡ true
+    pub opened-carries : length ds ≤ meterLimit → carries (f .p) (f .q) (b .rate .0) (b .depth .0) ds ≡ true
         → afterOffers (freshMeter b f) ds .over ≡ 0
     opened-carries l k = over-is l ∙ carried-over _ _ _ ds k
 
-    pub carries-opened : length ds ≤ 1000000 → afterOffers (freshMeter b f) ds .over ≡ 0
+    pub carries-opened : length ds ≤ meterLimit → afterOffers (freshMeter b f) ds .over ≡ 0
         → carries (f .p) (f .q) (b .rate .0) (b .depth .0) ds ≡ true
     carries-opened l k = over-carried _ _ _ ds (sym (over-is l) ∙ k)

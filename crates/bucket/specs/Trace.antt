@@ -7,11 +7,12 @@ use lib.Dec.{eqb}
 use lib.ListN.{getD}
 use lib.IntN.{ℤ, pos, _-ℤ_}
 use lib.Signed.{leZ}
+use Rattle.terms.specs.Limits.{demandLimit}
 use Rattle.bucket.specs.Step.{startOf, sent, over, held, lost}
 
--- Each demand is 0 to 65,535, a 16-bit number. (Past the end of a list `getD` gives 0.)
+-- Each demand is a 16-bit number. (Past the end of a list `getD` gives 0.)
 pub record Demands (ds : List ℕ) : Type 0 where
-  pub each : (i : ℕ) → getD ds i 0 ≤ 65535
+  pub each : (i : ℕ) → getD ds i 0 ≤ demandLimit
 
 -- The tokens held after the last period.
 unfoldable pub heldAfter : ℕ → ℕ → ℕ → List ℕ → ℕ

@@ -6,18 +6,15 @@ use terms::Bucket;
 use terms::Factor;
 use terms::Refusal;
 use terms::fresh_in_range;
+use terms::limits::DEMAND_LIMIT;
+use terms::limits::METER_LIMIT;
+use terms::limits::TOTAL_LIMIT;
 ghost use mathlib.Core.Path.{_≡_};
 ghost use Prim.Native.Nat.{_<_};
 ghost use Rattle.terms.specs.RangeLaws.{FreshRange};
 ghost use Rattle.terms.specs.Answer.{figures};
 ghost use Rattle.bucket.specs.Meter.{countsOk, balanced, meterOk, openOf, openSays, recordAfter, Answered};
 ghost use Rattle.bucket.specs.MeterLaws.{CountsRange};
-
-const METER_PERIODS: u32 = 1_000_000;
-
-const TOTAL_LIMIT: u64 = 100_000_000_000;
-
-const DEMAND_LIMIT: u64 = 65_535;
 
 // A meter's record: the bucket and the factor it was set up with, the tokens it holds, the periods
 // so far, and what was sent, over (discarded) and lost in all of them.
@@ -77,7 +74,7 @@ pub fn offer(meter: Meter, demand: u16) -> Offered
     let bucket = meter.bucket;
     let period = step(bucket, meter.held, demand);
     let next = counted(meter, period);
-    if METER_PERIODS < next.periods {
+    if METER_LIMIT < next.periods {
         return refuse(meter, Refusal::Full);
     }
     Offered {
@@ -133,11 +130,11 @@ fn counts_in_range(m: Meter) -> bool
     ensures { λ r. ⌜ r ≡ countsOk m ⌝ }
 {
     (m.held <= m.bucket.depth.0)
-        & (m.periods <= METER_PERIODS)
+        & (m.periods <= METER_LIMIT)
         & (m.sent <= TOTAL_LIMIT)
         & (m.over <= TOTAL_LIMIT)
         & (m.lost <= TOTAL_LIMIT)
-        & (m.over <= DEMAND_LIMIT * m.periods as u64)
+        & (m.over <= DEMAND_LIMIT as u64 * m.periods as u64)
 }
 
 // Whether the starting tokens and the rate of each period are what was sent, lost and is held.

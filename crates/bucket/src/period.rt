@@ -4,6 +4,7 @@ use terms::Bucket;
 use terms::Factor;
 ghost use Prim.Native.Nat.{_≤_, min};
 ghost use mathlib.Core.Path.{_≡_};
+ghost use Rattle.terms.specs.Limits.{depthLimit};
 ghost use Rattle.terms.specs.RangeLaws.{BucketRange, FreshRange};
 ghost use Rattle.bucket.specs.Step.{startOf, periodOf};
 
@@ -26,7 +27,7 @@ pub fn starting_tokens(bucket: Bucket, factor: Factor) -> u32
 // One period with `held` tokens and a demand of kilobits.
 pub fn step(bucket: Bucket, held: u32, demand: u16) -> Period
     requires { ⌜ BucketRange bucket ⌝ }
-    requires { ⌜ held ≤ 1000000 ⌝ }
+    requires { ⌜ held ≤ depthLimit ⌝ }
     ensures { λ r. ⌜ r ≡ periodOf (bucket .rate .0) (bucket .depth .0) held demand ⌝ }
 {
     let tokens = held + bucket.rate.0;

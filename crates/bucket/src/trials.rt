@@ -10,6 +10,7 @@ use terms::periods_in_range;
 ghost use Prim.Native.Nat.{_≤_};
 ghost use mathlib.Core.Path.{_≡_};
 ghost use lib.ListN.{length};
+ghost use Rattle.terms.specs.Limits.{depthLimit, rateLimit};
 ghost use Rattle.terms.specs.RangeLaws.{FreshRange, PeriodsRange};
 ghost use Rattle.bucket.specs.Trace.{gap, minZ};
 ghost use Rattle.bucket.specs.Trial.{trialFigures, trialOf, trialSays};
@@ -63,8 +64,8 @@ fn figures(bucket: Bucket, factor: Factor, trace: &[u16]) -> TrialFigures
 
 // The tokens of a period less its demand.
 fn to_spare(rate: Rate, held: u32, demand: u16) -> i64
-    requires { ⌜ rate .0 ≤ 4095 ⌝ }
-    requires { ⌜ held ≤ 1000000 ⌝ }
+    requires { ⌜ rate .0 ≤ rateLimit ⌝ }
+    requires { ⌜ held ≤ depthLimit ⌝ }
     ensures { λ r. ⌜ r ≡ gap (rate .0) held demand ⌝ }
 {
     let tokens = (held + rate.0) as i64;

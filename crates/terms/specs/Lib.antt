@@ -1,6 +1,7 @@
 -- The definitions that contracts cite, in reading order, and their laws.
 pub mod Answer
 pub mod Refusals
+pub mod Limits
 pub mod Ranges
 pub mod Bools
 pub mod RangeLaws

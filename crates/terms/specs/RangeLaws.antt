@@ -8,17 +8,18 @@ use lib.Dec.{leb}
 use borrow.Author.Tests.{leb-true, le-leb}
 use Rattle.terms.specs.declared.Factor.{Factor}
 use Rattle.terms.specs.declared.Bucket.{Bucket}
+use Rattle.terms.specs.Limits.{rateLimit, depthLimit, partsLimit, traceLimit}
 use Rattle.terms.specs.Ranges.{factorOk, bucketOk, freshOk, periodsOk}
 use Rattle.terms.specs.Bools.{and-both, both-and}
 
 pub record FactorRange (f : Factor) : Type 0 where
   pub part : f .p ≤ f .q
   pub some : 1 ≤ f .q
-  pub few : f .q ≤ 1000
+  pub few : f .q ≤ partsLimit
 
 pub factor-range : (f : Factor) → factorOk f ≡ true → FactorRange f
 factor-range f h =
-    let k = and-both (leb (f .p) (f .q) && leb 1 (f .q)) (leb (f .q) 1000) h in
+    let k = and-both (leb (f .p) (f .q) && leb 1 (f .q)) (leb (f .q) partsLimit) h in
     let l = and-both (leb (f .p) (f .q)) (leb 1 (f .q)) (k .0) in
     omega (arith, leb-true)
 
@@ -26,11 +27,11 @@ pub factor-ok : (f : Factor) → FactorRange f → factorOk f ≡ true
 factor-ok f k = both-and (both-and (le-leb _ _ (k .part)) (le-leb _ _ (k .some))) (le-leb _ _ (k .few))
 
 pub record BucketRange (b : Bucket) : Type 0 where
-  pub rates : b .rate .0 ≤ 4095
-  pub depths : b .depth .0 ≤ 1000000
+  pub rates : b .rate .0 ≤ rateLimit
+  pub depths : b .depth .0 ≤ depthLimit
 
 pub bucket-range : (b : Bucket) → bucketOk b ≡ true → BucketRange b
-bucket-range b h = let k = and-both (leb (b .rate .0) 4095) (leb (b .depth .0) 1000000) h in omega (arith, leb-true)
+bucket-range b h = let k = and-both (leb (b .rate .0) rateLimit) (leb (b .depth .0) depthLimit) h in omega (arith, leb-true)
 
 pub bucket-ok : (b : Bucket) → BucketRange b → bucketOk b ≡ true
 bucket-ok b k = both-and (le-leb _ _ (k .rates)) (le-leb _ _ (k .depths))
@@ -49,7 +50,7 @@ fresh-ok b f k = both-and (bucket-ok b (k .bucket)) (factor-ok f (k .factor))
 
 pub record PeriodsRange (n : ℕ) : Type 0 where
   pub some : 1 ≤ n
-  pub few : n ≤ 512
+  pub few : n ≤ traceLimit
 
 pub periods-range : (n : ℕ) → periodsOk n ≡ true → PeriodsRange n
-periods-range n h = let k = and-both (leb 1 n) (leb n 512) h in omega (arith, leb-true)
+periods-range n h = let k = and-both (leb 1 n) (leb n traceLimit) h in omega (arith, leb-true)

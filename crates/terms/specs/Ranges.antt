@@ -1,19 +1,20 @@
--- The ranges of the figures (01, "The tariff and its ranges"). Each limit stands here once.
+-- The ranges of the figures (01, "The tariff and its ranges").
 -- Assumes nothing.
 use Prim.Native.Nat.{ℕ}
 use mathlib.Core.Bool.{Bool, _&&_}
 use lib.Dec.{leb}
+use Rattle.terms.specs.Limits.{rateLimit, depthLimit, priceLimit, feeLimit, partsLimit, traceLimit}
 use Rattle.terms.specs.declared.Factor.{Factor}
 use Rattle.terms.specs.declared.Bucket.{Bucket}
 use Rattle.terms.specs.declared.Tariff.{Tariff}
 
 -- p 0..q; q 1..1,000
 abbrev pub factorOk : Factor → Bool
-factorOk f = leb (f .p) (f .q) && leb 1 (f .q) && leb (f .q) 1000
+factorOk f = leb (f .p) (f .q) && leb 1 (f .q) && leb (f .q) partsLimit
 
 -- rate at most 4,095 and depth at most 1,000,000: a bucket for a trial or a meter, or in a plan, and the caps of a tariff
 abbrev pub bucketOk : Bucket → Bool
-bucketOk b = leb (b .rate .0) 4095 && leb (b .depth .0) 1000000
+bucketOk b = leb (b .rate .0) rateLimit && leb (b .depth .0) depthLimit
 
 -- a bucket that can be set up fresh with a factor
 abbrev pub freshOk : Bucket → Factor → Bool
@@ -22,9 +23,9 @@ freshOk b f = bucketOk b && factorOk f
 -- rate price and depth price 0..65,535; setup fee 0..1,000,000,000; rate cap and depth cap as in a bucket; the factor
 abbrev pub tariffOk : Tariff → Bool
 tariffOk t =
-    leb (t .«rate_price» .0) 65535 && leb (t .«depth_price» .0) 65535 && leb (t .fee) 1000000000
+    leb (t .«rate_price» .0) priceLimit && leb (t .«depth_price» .0) priceLimit && leb (t .fee) feeLimit
     && freshOk (record { rate = t .«rate_cap»; depth = t .«depth_cap» }) (t .factor)
 
 -- T is 1..512
 abbrev pub periodsOk : ℕ → Bool
-periodsOk n = leb 1 n && leb n 512
+periodsOk n = leb 1 n && leb n traceLimit

@@ -1,5 +1,6 @@
 // The nouns that every part of the planner speaks in: rates, depths, their prices, the starting
 // factor, the bucket, the tariff, and the numbered refusals.
+pub mod limits;
 mod ranges;
 mod refusal;
 

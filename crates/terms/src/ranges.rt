@@ -2,20 +2,14 @@
 use crate::Bucket;
 use crate::Factor;
 use crate::Tariff;
+use crate::limits::DEPTH_LIMIT;
+use crate::limits::FEE_LIMIT;
+use crate::limits::PARTS_LIMIT;
+use crate::limits::PRICE_LIMIT;
+use crate::limits::RATE_LIMIT;
+use crate::limits::TRACE_LIMIT;
 ghost use mathlib.Core.Path.{_≡_};
 ghost use Rattle.terms.specs.Ranges.{factorOk, bucketOk, freshOk, tariffOk, periodsOk};
-
-const RATE_LIMIT: u32 = 4095;
-
-const DEPTH_LIMIT: u32 = 1_000_000;
-
-const PRICE_LIMIT: u32 = 65_535;
-
-const FEE_LIMIT: u32 = 1_000_000_000;
-
-const PARTS_LIMIT: u32 = 1000;
-
-const PERIODS_LIMIT: usize = 512;
 
 // Whether q is 1 to 1,000 and p at most q.
 pub fn factor_in_range(f: Factor) -> bool
@@ -56,5 +50,5 @@ pub fn tariff_in_range(t: Tariff) -> bool
 pub fn periods_in_range(n: usize) -> bool
     ensures { λ r. ⌜ r ≡ periodsOk n ⌝ }
 {
-    (1 <= n) & (n <= PERIODS_LIMIT)
+    (1 <= n) & (n <= TRACE_LIMIT)
 }

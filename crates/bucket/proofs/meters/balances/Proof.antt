@@ -3,6 +3,7 @@ use Prim.Native.Nat.{_*_, _≤_}
 use native.Mathlib.Omega.{arith}
 use native.Mathlib.Nat.{mul-le-mul}
 use borrow.Author.Needs.{needs}
+use Rattle.terms.specs.Limits.{rateLimit, meterLimit}
 use Rattle.bucket.proofs.meters.balances.Statement.{statement}
 use Rattle.bucket.proofs.meters.balances.Tie as tie
 
@@ -15,8 +16,8 @@ cast-gained c = search needs
 cast-gained-2 : tie.Need-cast-gained-2
 cast-gained-2 c = search needs
 
--- the rate of each period, in all, is at most 4,095 × 1,000,000
-gained : (c : tie.After-starting-tokens) → let m = c .before .before .before .args .m in m .bucket .rate .0 * m .periods ≤ 4095 * 1000000
+-- what the rate brings in all periods
+gained : (c : tie.After-starting-tokens) → let m = c .before .before .before .args .m in m .bucket .rate .0 * m .periods ≤ rateLimit * meterLimit
 gained c = let h = c .before .before .before .pre in mul-le-mul (h .0 .bucket .rates) (h .1 .times)
 
 mul-gained : tie.Need-mul-gained

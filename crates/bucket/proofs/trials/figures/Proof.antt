@@ -12,6 +12,7 @@ use lib.IntN.{ℤ}
 use lib.Signed.{mag}
 use Rattle.terms.specs.declared.Bucket.{Bucket}
 use Rattle.terms.specs.declared.Factor.{Factor}
+use Rattle.terms.specs.Limits.{depthLimit}
 use Rattle.bucket.specs.Step.{startOf}
 use Rattle.bucket.specs.Trace.{overAll, spareFrom, minZ}
 use Rattle.bucket.specs.Laws.{start-le}
@@ -40,7 +41,7 @@ starting-tokens-requires : tie.Need-starting-tokens-requires Inv-loop μ-loop
 starting-tokens-requires c κs = c .before .before .pre .0
 
 -- a fresh bucket holds at most its depth
-started : (c : tie.After-starting-tokens Inv-loop μ-loop) → c .starting-tokens .result ≤ 1000000
+started : (c : tie.After-starting-tokens Inv-loop μ-loop) → c .starting-tokens .result ≤ depthLimit
 started c =
     let h = c .before .before .before .pre in
     let a = c .before .before .before .args in
