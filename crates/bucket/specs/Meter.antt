@@ -5,6 +5,7 @@ use mathlib.Core.Path.{_≡_}
 use mathlib.Core.Bool.{Bool, _&&_}
 use mathlib.Core.List.{List, [], _∷_}
 use lib.Dec.{leb, ltb, eqb}
+use lib.ListN.{length}
 use Rattle.terms.specs.declared.Bucket.{Bucket}
 use Rattle.terms.specs.declared.Factor.{Factor}
 use Rattle.terms.specs.Answer.{Answer, figures, refused, weigh}
@@ -19,6 +20,7 @@ use Rattle.bucket.specs.declared.meters.OfferAnswer.{OfferAnswer}
 use Rattle.bucket.specs.declared.meters.OfferAnswer.the-variants as offering
 use Rattle.bucket.specs.declared.meters.Offered.{Offered}
 use Rattle.bucket.specs.Step.{startOf, periodOf}
+use Rattle.bucket.specs.Trace.{heldAfter, sentAll, overAll, lostAll}
 
 -- Tokens held, periods and totals within their limits.
 abbrev pub countsOk : Meter → Bool
@@ -77,6 +79,20 @@ keptIf (refused n) d ds = ds
 unfoldable pub accepted : Meter → List ℕ → List ℕ
 accepted m [] = []
 accepted m (d ∷ ds) = keptIf (offerOf m d) d (accepted (recordAfter m (offerOf m d)) ds)
+
+-- The record of a meter opened on (b, f) that has accepted the demands ds: its figures are those of the definitions.
+abbrev pub meterOn : Bucket → Factor → List ℕ → Meter
+meterOn b f ds =
+    let y = startOf (f .p) (f .q) (b .depth .0) in
+    record {
+      bucket = b;
+      factor = f;
+      held = heldAfter (b .rate .0) (b .depth .0) y ds;
+      periods = length ds;
+      sent = sentAll (b .rate .0) (b .depth .0) y ds;
+      over = overAll (b .rate .0) (b .depth .0) y ds;
+      lost = lostAll (b .rate .0) (b .depth .0) y ds;
+    }
 
 -- Each case of an answer in document 01's values and numbers.
 abbrev pub openSays : MeterAnswer → Answer Meter

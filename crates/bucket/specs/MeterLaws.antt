@@ -8,14 +8,16 @@ use mathlib.Core.Bool.{Bool, true, false, _&&_}
 use borrow.Author.Tests.{leb-true, le-leb, eqb-true, eq-eqb, lt-ltb, le-ltb, ltb-true, ltb-false}
 use lib.Dec.{leb, ltb}
 use Rattle.terms.specs.Limits.{demandLimit, rateLimit, depthLimit, meterLimit, totalLimit}
-use Rattle.terms.specs.Answer.{figures, refused}
+use Rattle.terms.specs.declared.Bucket.{Bucket}
+use Rattle.terms.specs.declared.Factor.{Factor}
+use Rattle.terms.specs.Answer.{figures, refused, weigh}
 use Rattle.terms.specs.Bools.{and-both, both-and}
 use Rattle.terms.specs.Ranges.{freshOk}
 use Rattle.terms.specs.RangeLaws.{FreshRange, fresh-range, fresh-ok}
 use Rattle.bucket.specs.declared.meters.Meter.{Meter}
 use Rattle.bucket.specs.Step.{startOf, sent, over, held, lost, periodOf}
 use Rattle.bucket.specs.Laws.{start-le}
-use Rattle.bucket.specs.Meter.{countsOk, balanced, meterOk, offerOf, recordAfter}
+use Rattle.bucket.specs.Meter.{countsOk, balanced, meterOk, freshMeter, openOf, offerOf, recordAfter}
 
 pub record CountsRange (m : Meter) : Type 0 where
   pub holds : m .held ≤ m .bucket .depth .0
@@ -54,6 +56,16 @@ meter-sound m h =
 pub sound-meter : (m : Meter) → Sound m → meterOk m ≡ true
 unfolding meterOk
 sound-meter m k = both-and (both-and (fresh-ok _ _ (k .fresh)) (counts-ok m (k .counts))) (eq-eqb _ _ (k .balance))
+
+-- ---- Opening
+
+-- What opening gives is the fresh record, of a bucket and factor in their ranges.
+pub open-fresh : (b : Bucket) (f : Factor) (m : Meter) → openOf b f ≡ figures m → (m ≡ freshMeter b f) × FreshRange b f
+open-fresh b f m e = go (freshOk b f) refl e
+  where
+    go : (t : Bool) → freshOk b f ≡ t → weigh t 5 (figures (freshMeter b f)) ≡ figures m → (m ≡ freshMeter b f) × FreshRange b f
+    go true h k = (cc, fresh-range b f h)
+    go false h k = absurd (let z : _≡_ {A = ℕ} 0 1 = cc in omega arith)
 
 -- ---- One offer
 

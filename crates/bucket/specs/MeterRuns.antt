@@ -20,7 +20,7 @@ use Rattle.bucket.specs.declared.meters.Meter.{Meter}
 use Rattle.bucket.specs.Step.{startOf, sent, over, held, lost, periodOf}
 use Rattle.bucket.specs.Trace.{Demands, heldAfter, sumOf, sentAll, overAll, lostAll, carries}
 use Rattle.bucket.specs.Laws.{start-le, conservation, carried-over, over-carried}
-use Rattle.bucket.specs.Meter.{offerOf, recordAfter, freshMeter, afterOffers, accepted}
+use Rattle.bucket.specs.Meter.{offerOf, recordAfter, freshMeter, afterOffers, accepted, meterOn}
 use Rattle.bucket.specs.MeterLaws.{Sound, sound-meter, offer-full, offer-taken, taken-sound, sound-never-8}
 
 rest-demands : (d : ℕ) (ds : List ℕ) → Demands (d ∷ ds) → Demands ds
@@ -95,20 +95,6 @@ metered m (d ∷ ds) k h =
 
 -- ---- An opened meter
 
--- The record of a meter opened on (b, f) that has accepted the demands ds: its figures are those of the definitions.
-abbrev pub meterOn : Bucket → Factor → List ℕ → Meter
-meterOn b f ds =
-    let y = startOf (f .p) (f .q) (b .depth .0) in
-    record {
-      bucket = b;
-      factor = f;
-      held = heldAfter (b .rate .0) (b .depth .0) y ds;
-      periods = length ds;
-      sent = sentAll (b .rate .0) (b .depth .0) y ds;
-      over = overAll (b .rate .0) (b .depth .0) y ds;
-      lost = lostAll (b .rate .0) (b .depth .0) y ds;
-    }
-
 module _ (b : Bucket) (f : Factor) (range : FreshRange b f) where
   pub opened-sound : Sound (freshMeter b f)
   opened-sound =
@@ -128,17 +114,20 @@ module _ (b : Bucket) (f : Factor) (range : FreshRange b f) where
     pub opened-accepts : accepted (freshMeter b f) ds ≡ take meterLimit ds
     opened-accepts = all .accepts
 
+    first : afterOffers (freshMeter b f) ds ≡ meterOn b f (take meterLimit ds)
+    first = all .records ∙ meter-by _ _ _ _ _ _ _ _ _ _ _ (omega arith) (omega arith) (omega arith) (omega arith)
+
     -- Each total is the sum over the accepted offers.
-    pub opened-totals : afterOffers (freshMeter b f) ds ≡ meterOn b f (take meterLimit ds)
-    opened-totals = all .records ∙ meter-by _ _ _ _ _ _ _ _ _ _ _ (omega arith) (omega arith) (omega arith) (omega arith)
+    pub opened-totals : afterOffers (freshMeter b f) ds ≡ meterOn b f (accepted (freshMeter b f) ds)
+    opened-totals = first ∙ ap (meterOn b f) (sym opened-accepts)
 
     -- starting tokens + r × periods = sent + lost + tokens held
     pub opened-balance : let m = afterOffers (freshMeter b f) ds in
         startOf (f .p) (f .q) (b .depth .0) + b .rate .0 * m .periods ≡ m .sent + m .lost + m .held
-    opened-balance = rw opened-totals (conservation (b .rate .0) (b .depth .0) (startOf (f .p) (f .q) (b .depth .0)) (take meterLimit ds))
+    opened-balance = rw first (conservation (b .rate .0) (b .depth .0) (startOf (f .p) (f .q) (b .depth .0)) (take meterLimit ds))
 
     periods-are : afterOffers (freshMeter b f) ds .periods ≡ min meterLimit (length ds)
-    periods-are = ap (λ (m : Meter). m .periods) opened-totals ∙ length-take meterLimit ds
+    periods-are = ap (λ (m : Meter). m .periods) first ∙ length-take meterLimit ds
 
     -- It meets refusal 9 exactly after 1,000,000 periods, and refusal 8 never.
     pub opened-full : (d : ℕ) → meterLimit ≤ length ds → offerOf (afterOffers (freshMeter b f) ds) d ≡ refused 9
@@ -148,14 +137,18 @@ module _ (b : Bucket) (f : Factor) (range : FreshRange b f) where
         offerOf m d ≡ figures (periodOf (b .rate .0) (b .depth .0) (m .held) d)
     opened-takes d l =
         offer-taken _ d (sound-meter _ (all .sound)) (omega (arith, periods-are))
-        ∙ ap (λ (m : Meter). figures (periodOf (m .bucket .rate .0) (m .bucket .depth .0) (afterOffers (freshMeter b f) ds .held) d)) opened-totals
+        ∙ ap (λ (m : Meter). figures (periodOf (m .bucket .rate .0) (m .bucket .depth .0) (afterOffers (freshMeter b f) ds .held) d)) first
 
     pub opened-never-8 : (d : ℕ) → offerOf (afterOffers (freshMeter b f) ds) d ≡ refused 8 → ⊥
     opened-never-8 d e = sound-never-8 _ d (all .sound) e
 
-    -- On a trace of at most 1,000,000 periods its over total is 0 exactly when the bucket carries the trace.
-    over-is : length ds ≤ meterLimit → afterOffers (freshMeter b f) ds .over ≡ overAll (b .rate .0) (b .depth .0) (startOf (f .p) (f .q) (b .depth .0)) ds
-    over-is l = rw (opened-totals, take-all meterLimit ds l)
+    -- On a trace of at most 1,000,000 periods every total is the definition's, and over is 0 exactly when the bucket carries the trace.
+    pub opened-trace : length ds ≤ meterLimit → afterOffers (freshMeter b f) ds ≡ meterOn b f ds
+    opened-trace l = first ∙ ap (meterOn b f) (take-all meterLimit ds l)
+
+    over-is : length ds ≤ meterLimit
+        → afterOffers (freshMeter b f) ds .over ≡ overAll (b .rate .0) (b .depth .0) (startOf (f .p) (f .q) (b .depth .0)) ds
+    over-is l = ap (λ (m : Meter). m .over) (opened-trace l)
 
     pub opened-carries : length ds ≤ meterLimit → carries (f .p) (f .q) (b .rate .0) (b .depth .0) ds ≡ true
         → afterOffers (freshMeter b f) ds .over ≡ 0

@@ -1,9 +1,12 @@
--- The discrete token bucket: rate r, depth B, y tokens held, demand d (01, "The bucket"; the report, section 2.2).
+-- One period of the discrete token bucket, as 01 words it ("The bucket"): rate r, depth B, y tokens held, demand d.
+-- The report has the same three steps in section 2.2: r new tokens, one token for each unit sent, and what is left is
+-- stored up to the depth. The library's `-` stops at 0; no difference here does, since sent is at most d and at most
+-- y + r, and what is held next is at most what is left.
 -- Assumes nothing.
 use Prim.Native.Nat.{ℕ, _+_, _-_, _*_, _/_, min}
 use Rattle.bucket.specs.declared.period.Period.{Period}
 
--- A fresh bucket holds p × B / q tokens, rounded down.
+-- A fresh bucket holds p × B / q tokens, rounded down (the report's δ · B; `_/_` rounds down).
 unfoldable pub startOf : ℕ → ℕ → ℕ → ℕ
 startOf p q B = p * B / q
 

@@ -10,7 +10,6 @@ use terms::limits::DEMAND_LIMIT;
 use terms::limits::METER_LIMIT;
 use terms::limits::TOTAL_LIMIT;
 ghost use mathlib.Core.Path.{_≡_};
-ghost use Prim.Native.Nat.{_<_};
 ghost use Rattle.terms.specs.RangeLaws.{FreshRange};
 ghost use Rattle.terms.specs.Answer.{figures};
 ghost use Rattle.bucket.specs.Meter.{countsOk, balanced, meterOk, openOf, openSays, recordAfter, Answered};
@@ -28,23 +27,25 @@ pub struct Meter {
     pub lost: u64,
 }
 
+// What opening answers: the record of a meter that has taken no offer, or the refusal.
 pub enum MeterAnswer {
     Opened(Meter),
     Refused(Refusal),
 }
 
+// What one offer answers: what its period sent, discarded, lost and holds, or the refusal.
 pub enum OfferAnswer {
     Taken(Period),
     Refused(Refusal),
 }
 
-// What an offer gives: the record after it, and the offer's own period or the refusal.
+// The record that comes back from an offer, and the offer's answer.
 pub struct Offered {
     pub meter: Meter,
     pub answer: OfferAnswer,
 }
 
-// A meter on a fresh bucket. Refuses 5.
+// A meter on a fresh bucket, or refusal 5.
 pub fn open_meter(bucket: Bucket, factor: Factor) -> MeterAnswer
     ensures { λ r. ⌜ openSays r ≡ openOf bucket factor ⌝ }
 {
@@ -63,8 +64,8 @@ pub fn open_meter(bucket: Bucket, factor: Factor) -> MeterAnswer
     })
 }
 
-// One period with an offer of kilobits, on any record at all. Refuses 8 and 9, and then the record
-// comes back as it was.
+// One period of a meter with an offer of kilobits, or refusal 8 or 9, and then the record comes
+// back as it was. The record may be any at all.
 pub fn offer(meter: Meter, demand: u16) -> Offered
     ensures { λ r. ⌜ Answered meter demand r ⌝ }
 {
@@ -93,7 +94,7 @@ fn refuse(meter: Meter, why: Refusal) -> Offered
     }
 }
 
-// The record with one more period in each total.
+// The record with one period more, counted in each total.
 fn counted(m: Meter, period: Period) -> Meter
     requires { ⌜ CountsRange m ⌝ }
     ensures { λ r. ⌜ r ≡ recordAfter m (figures period) ⌝ }
@@ -126,6 +127,7 @@ fn record_in_order(m: Meter) -> bool
     balances(m)
 }
 
+// Whether tokens, periods and totals are within their limits.
 fn counts_in_range(m: Meter) -> bool
     ensures { λ r. ⌜ r ≡ countsOk m ⌝ }
 {

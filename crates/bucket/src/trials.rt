@@ -22,12 +22,13 @@ pub struct TrialFigures {
     pub over: u32,
 }
 
+// What a trial answers: the figures, or the refusal.
 pub enum TrialAnswer {
     Found(TrialFigures),
     Refused(Refusal),
 }
 
-// Spare and discards of a fresh bucket on a trace. Refuses 3 and 5. No tariff's caps bind it.
+// Spare and discards of a fresh bucket on a trace, or refusal 3 or 5. No tariff's caps bind it.
 pub fn trial(bucket: Bucket, factor: Factor, trace: &[u16]) -> TrialAnswer
     ensures { λ r. ⌜ trialSays r ≡ trialOf bucket factor (now (trace .entry)) ⌝ }
 {

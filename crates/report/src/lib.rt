@@ -43,7 +43,7 @@ pub fn end_line() {
 // The word refused and the number.
 pub fn refusal(x: Refusal) {
     words(b" refused");
-    number(terms::number(x) as u64);
+    number(terms::number_of(x) as u64);
 }
 
 // Spare and discards, or the refusal.

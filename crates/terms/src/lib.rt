@@ -10,7 +10,7 @@ pub use ranges::fresh_in_range;
 pub use ranges::periods_in_range;
 pub use ranges::tariff_in_range;
 pub use refusal::Refusal;
-pub use refusal::number;
+pub use refusal::number_of;
 
 // Tokens gained in each period. One token pays for one kilobit.
 pub struct Rate(pub u32);

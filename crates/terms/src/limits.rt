@@ -1,4 +1,4 @@
-// The limits of document 01, as the specification's table has them.
+// The limits of document 01, under the names of the specification's table.
 pub const DEMAND_LIMIT: u16 = 65_535;
 
 pub const RATE_LIMIT: u32 = 4095;

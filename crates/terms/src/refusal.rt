@@ -1,21 +1,30 @@
-// The refusals of document 01, by number.
+// The refusals, with document 01's numbers and words.
 ghost use mathlib.Core.Path.{_≡_};
 ghost use Rattle.terms.specs.Refusals.{numberOf};
 
 pub enum Refusal {
+    // 1: a file under its least length
     Short,
+    // 2: a file of another kind
     Foreign,
+    // 3: a number of periods or buckets, or a trace's length, outside its range
     Periods,
+    // 4: an offset or a length that the counts do not give
     Misplaced,
+    // 5: a tariff, bucket, cost or run figure that breaks its rule
     Figure,
+    // 6: a lent list or lent bytes too short for the answer
     List,
+    // 7: no depth, no bucket or no cutting carries the trace inside the caps
     NoPlan,
+    // 8: a meter record that breaks a rule
     Meter,
+    // 9: a meter that has taken its last period
     Full,
 }
 
 // The number that a refusal is printed by.
-pub fn number(x: Refusal) -> u32
+pub fn number_of(x: Refusal) -> u32
     ensures { λ r. ⌜ r ≡ numberOf x ⌝ }
 {
     match x {
