@@ -1,17 +1,17 @@
--- Laws of the meter.
+-- Laws of a meter record: its rules as orders and an equation of numbers, opening, and one offer.
 -- Assumes nothing.
 use Prim.Native.Nat.{ℕ, _+_, _*_, _≤_, _<_}
 use native.Mathlib.Omega.{arith}
 use native.Mathlib.Nat.{mul-add, mul-le-mul}
 use mathlib.Core.Path.{_≡_, refl, ap}
-use mathlib.Core.Bool.{Bool, true, false, _&&_}
+use mathlib.Core.Bool.{Bool, true, false}
 use borrow.Author.Tests.{leb-true, le-leb, eqb-true, eq-eqb, lt-ltb, le-ltb, ltb-true, ltb-false}
 use lib.Dec.{leb, ltb}
-use Rattle.terms.specs.Limits.{demandLimit, rateLimit, depthLimit, meterLimit, totalLimit}
+use Rattle.terms.specs.Limits.{demandLimit, rateLimit, meterLimit, totalLimit}
 use Rattle.terms.specs.declared.Bucket.{Bucket}
 use Rattle.terms.specs.declared.Factor.{Factor}
 use Rattle.terms.specs.Answer.{figures, refused, weigh}
-use Rattle.terms.specs.Bools.{and-both, both-and}
+use Rattle.terms.specs.Bools.{and-three, and-six, both-and}
 use Rattle.terms.specs.Ranges.{freshOk}
 use Rattle.terms.specs.RangeLaws.{FreshRange, fresh-range, fresh-ok}
 use Rattle.bucket.specs.declared.meters.Meter.{Meter}
@@ -29,11 +29,10 @@ pub record CountsRange (m : Meter) : Type 0 where
 
 pub counts-range : (m : Meter) → countsOk m ≡ true → CountsRange m
 counts-range m h =
-    let e = and-both (leb (m .held) (m .bucket .depth .0) && leb (m .periods) meterLimit && leb (m .sent) totalLimit && leb (m .over) totalLimit && leb (m .lost) totalLimit) (leb (m .over) (demandLimit * m .periods)) h in
-    let d = and-both (leb (m .held) (m .bucket .depth .0) && leb (m .periods) meterLimit && leb (m .sent) totalLimit && leb (m .over) totalLimit) (leb (m .lost) totalLimit) (e .0) in
-    let c = and-both (leb (m .held) (m .bucket .depth .0) && leb (m .periods) meterLimit && leb (m .sent) totalLimit) (leb (m .over) totalLimit) (d .0) in
-    let b = and-both (leb (m .held) (m .bucket .depth .0) && leb (m .periods) meterLimit) (leb (m .sent) totalLimit) (c .0) in
-    let a = and-both (leb (m .held) (m .bucket .depth .0)) (leb (m .periods) meterLimit) (b .0) in
+    let s = leb (m .sent) totalLimit in
+    let o = leb (m .over) totalLimit in
+    let l = leb (m .lost) totalLimit in
+    let k = and-six (leb (m .held) (m .bucket .depth .0)) (leb (m .periods) meterLimit) s o l (leb (m .over) (demandLimit * m .periods)) h in
     omega (arith, leb-true)
 
 pub counts-ok : (m : Meter) → CountsRange m → countsOk m ≡ true
@@ -49,9 +48,8 @@ pub record Sound (m : Meter) : Type 0 where
 pub meter-sound : (m : Meter) → meterOk m ≡ true → Sound m
 unfolding meterOk
 meter-sound m h =
-    let b = and-both (freshOk (m .bucket) (m .factor) && countsOk m) (balanced m) h in
-    let a = and-both (freshOk (m .bucket) (m .factor)) (countsOk m) (b .0) in
-    record { fresh = fresh-range _ _ (a .0); counts = counts-range m (a .1); balance = eqb-true _ _ (b .1) }
+    let k = and-three (freshOk (m .bucket) (m .factor)) (countsOk m) (balanced m) h in
+    record { fresh = fresh-range _ _ (k .0); counts = counts-range m (k .1); balance = eqb-true _ _ (k .2) }
 
 pub sound-meter : (m : Meter) → Sound m → meterOk m ≡ true
 unfolding meterOk
@@ -94,26 +92,27 @@ sound-never-8 m d k e = go (ltb (m .periods) meterLimit) refl
     go true t = let x = offer-taken m d (sound-meter m k) (ltb-true _ _ t) in let z : _≡_ {A = ℕ} 0 1 = cc in omega arith
     go false t = let x = offer-full m d (sound-meter m k) (ltb-false _ _ t) in let z : _≡_ {A = ℕ} 8 9 = cc in omega arith
 
--- An accepted offer keeps a record sound: what it brings is what it sends, loses and leaves.
+-- An accepted offer keeps the balance: what the period brings is what it sends, loses and leaves.
+balance-more : (start r B y n s l d : ℕ) → start + r * n ≡ s + l + y → start + r * (n + 1) ≡ s + sent r y d + (l + lost r B y d) + held r B y d
+balance-more start r B y n s l d e = omega (arith, mul-add r n 1)
+
+-- It keeps a record sound: each total is within what the balance leaves.
 pub taken-sound : (m : Meter) (d : ℕ) → Sound m → m .periods < meterLimit → d ≤ demandLimit
     → Sound (recordAfter m (figures (periodOf (m .bucket .rate .0) (m .bucket .depth .0) (m .held) d)))
 taken-sound m d k l h =
-    let r = m .bucket .rate .0 in
     let B = m .bucket .depth .0 in
-    let start = startOf (m .factor .p) (m .factor .q) B in
-    let e : start + r * (m .periods + 1) ≡ m .sent + sent r (m .held) d + (m .lost + lost r B (m .held) d) + held r B (m .held) d =
-    omega (arith, k .balance, mul-add r (m .periods) 1) in
+    let e = balance-more _ (m .bucket .rate .0) B (m .held) (m .periods) (m .sent) (m .lost) d (k .balance) in
     let n : m .periods + 1 ≤ meterLimit = omega arith in
-    let g : r * (m .periods + 1) ≤ rateLimit * meterLimit = mul-le-mul (k .fresh .bucket .rates) n in
-    let z : start ≤ depthLimit = omega (arith, start-le (m .factor .p) (m .factor .q) B (k .fresh .factor .part), k .fresh .bucket .depths) in
+    let g : m .bucket .rate .0 * (m .periods + 1) ≤ rateLimit * meterLimit = mul-le-mul (k .fresh .bucket .rates) n in
+    let z = start-le (m .factor .p) (m .factor .q) B (k .fresh .factor .part) in
     record {
       fresh = k .fresh;
       counts = record {
         holds = omega arith;
         times = n;
-        sents = omega (arith, e);
+        sents = omega (arith, k .fresh .bucket .depths);
         overs = omega (arith, k .counts .paced);
-        losts = omega (arith, e);
+        losts = omega (arith, k .fresh .bucket .depths);
         paced = omega (arith, k .counts .paced);
       };
       balance = e;

@@ -26,9 +26,13 @@ fn row_j() {
             let m = bucket::offer(m, 8).meter;
             let m = bucket::offer(m, 2).meter;
             let m = bucket::offer(m, 9).meter;
+            report::words(b" sent");
             report::number(m.sent);
+            report::words(b" over");
             report::number(m.over);
+            report::words(b" lost");
             report::number(m.lost);
+            report::words(b" tokens");
             report::number(m.held as u64);
         }
         MeterAnswer::Refused(x) => report::refusal(x),

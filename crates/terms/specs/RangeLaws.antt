@@ -3,14 +3,14 @@
 use Prim.Native.Nat.{ℕ, _≤_}
 use native.Mathlib.Omega.{arith}
 use mathlib.Core.Path.{_≡_}
-use mathlib.Core.Bool.{true, _&&_}
+use mathlib.Core.Bool.{true}
 use lib.Dec.{leb}
 use borrow.Author.Tests.{leb-true, le-leb}
 use Rattle.terms.specs.declared.Factor.{Factor}
 use Rattle.terms.specs.declared.Bucket.{Bucket}
 use Rattle.terms.specs.Limits.{rateLimit, depthLimit, partsLimit, traceLimit}
 use Rattle.terms.specs.Ranges.{factorOk, bucketOk, freshOk, periodsOk}
-use Rattle.terms.specs.Bools.{and-both, both-and}
+use Rattle.terms.specs.Bools.{and-both, and-three, both-and}
 
 pub record FactorRange (f : Factor) : Type 0 where
   pub part : f .p ≤ f .q
@@ -19,8 +19,7 @@ pub record FactorRange (f : Factor) : Type 0 where
 
 pub factor-range : (f : Factor) → factorOk f ≡ true → FactorRange f
 factor-range f h =
-    let k = and-both (leb (f .p) (f .q) && leb 1 (f .q)) (leb (f .q) partsLimit) h in
-    let l = and-both (leb (f .p) (f .q)) (leb 1 (f .q)) (k .0) in
+    let k = and-three (leb (f .p) (f .q)) (leb 1 (f .q)) (leb (f .q) partsLimit) h in
     omega (arith, leb-true)
 
 pub factor-ok : (f : Factor) → FactorRange f → factorOk f ≡ true
