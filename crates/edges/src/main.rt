@@ -5,9 +5,20 @@ mod small;
 mod tariffs;
 mod trials;
 
+use terms::Bucket;
+use terms::Depth;
+use terms::Rate;
+
 fn main() {
     tariffs::edges();
     trials::edges();
     meters::edges();
     small::cases();
+}
+
+fn bucket_of(rate: u32, depth: u32) -> Bucket {
+    Bucket {
+        rate: Rate(rate),
+        depth: Depth(depth),
+    }
 }

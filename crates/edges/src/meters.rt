@@ -1,25 +1,19 @@
 // Meter records that break each rule of refusal 8, records at the last period, and a meter that is
 // offered periods until it is full.
+use crate::bucket_of;
 use bucket::Meter;
 use bucket::MeterAnswer;
 use bucket::OfferAnswer;
-use terms::Bucket;
-use terms::Depth;
 use terms::Factor;
-use terms::Rate;
 
 pub fn edges() {
-    opening(
-        b"rate 4095 depth 1000000",
-        4095,
-        1_000_000,
-        Factor { p: 1000, q: 1000 },
-    );
-    opening(b"rate 4096", 4096, 4, Factor { p: 1, q: 2 });
-    opening(b"depth 1000001", 5, 1_000_001, Factor { p: 1, q: 2 });
-    opening(b"q 0", 5, 4, Factor { p: 0, q: 0 });
-    opening(b"p one above q", 5, 4, Factor { p: 3, q: 2 });
-    offers(b"in order", sound());
+    opening(b"at its limits", 4095, 1_000_000, 1000, 1000);
+    opening(b"rate 4096", 4096, 4, 1, 2);
+    opening(b"depth 1000001", 5, 1_000_001, 1, 2);
+    opening(b"q 0", 5, 4, 0, 0);
+    opening(b"q 1001", 5, 4, 1, 1001);
+    opening(b"p one above q", 5, 4, 3, 2);
+    offers(b"in order", record_of(5, 4, 1, 2, 0, 4, 22, 1, 0));
     buckets();
     counts();
     totals();
@@ -27,17 +21,12 @@ pub fn edges() {
     until_full();
 }
 
-fn opening(edge: &[u8], rate: u32, depth: u32, factor: Factor) {
+// The record of a meter that is opened, or the refusal.
+fn opening(edge: &[u8], rate: u32, depth: u32, p: u32, q: u32) {
     report::words(b"open ");
     report::words(edge);
     report::words(b":");
-    let a = bucket::open_meter(
-        Bucket {
-            rate: Rate(rate),
-            depth: Depth(depth),
-        },
-        factor,
-    );
+    let a = bucket::open_meter(bucket_of(rate, depth), Factor { p, q });
     match a {
         MeterAnswer::Opened(m) => figures(m),
         MeterAnswer::Refused(x) => report::refusal(x),
@@ -45,113 +34,104 @@ fn opening(edge: &[u8], rate: u32, depth: u32, factor: Factor) {
     report::end_line();
 }
 
-// The record of a meter of rate 5, depth 4 and factor 1/2 after offers 4, 8, 2 and 9.
-fn sound() -> Meter {
+// A record by its nine figures, in document 01's order: rate, depth, p, q, tokens held, periods,
+// sent, over, lost.
+fn record_of(
+    rate: u32,
+    depth: u32,
+    p: u32,
+    q: u32,
+    held: u32,
+    periods: u32,
+    sent: u64,
+    over: u64,
+    lost: u64,
+) -> Meter {
     Meter {
-        bucket: Bucket {
-            rate: Rate(5),
-            depth: Depth(4),
-        },
-        factor: Factor { p: 1, q: 2 },
-        held: 0,
-        periods: 4,
-        sent: 22,
-        over: 1,
-        lost: 0,
+        bucket: bucket_of(rate, depth),
+        factor: Factor { p, q },
+        held,
+        periods,
+        sent,
+        over,
+        lost,
     }
 }
 
 // Each breaks one rule only: what was sent keeps the balance.
 fn buckets() {
-    let mut m = sound();
-    m.bucket.rate.0 = 4096;
-    m.sent = 16_386;
-    offers(b"rate 4096", m);
-    let mut m = sound();
-    m.bucket.depth.0 = 1_000_001;
-    m.sent = 500_020;
-    offers(b"depth 1000001", m);
-    let mut m = sound();
-    m.factor.p = 0;
-    m.factor.q = 0;
-    m.sent = 20;
-    offers(b"q 0", m);
-    let mut m = sound();
-    m.factor.q = 1001;
-    m.sent = 20;
-    offers(b"q 1001", m);
-    let mut m = sound();
-    m.factor.p = 3;
-    m.sent = 26;
-    offers(b"p one above q", m);
+    offers(b"rate 4096", record_of(4096, 4, 1, 2, 0, 4, 16_386, 1, 0));
+    offers(
+        b"depth 1000001",
+        record_of(5, 1_000_001, 1, 2, 0, 4, 500_020, 1, 0),
+    );
+    offers(b"q 0", record_of(5, 4, 0, 0, 0, 4, 20, 1, 0));
+    offers(b"q 1001", record_of(5, 4, 1, 1001, 0, 4, 20, 1, 0));
+    offers(b"p one above q", record_of(5, 4, 3, 2, 0, 4, 26, 1, 0));
 }
 
 fn counts() {
-    let mut m = sound();
-    m.held = 5;
-    m.sent = 17;
-    offers(b"tokens one above depth", m);
-    let mut m = sound();
-    m.periods = 1_000_001;
-    m.sent = 5_000_007;
-    offers(b"1000001 periods", m);
-    let mut m = sound();
-    m.sent = 23;
-    offers(b"one token sent too many", m);
-    let mut m = sound();
-    m.lost = 1;
-    offers(b"one token lost too many", m);
+    offers(
+        b"tokens one above depth",
+        record_of(5, 4, 1, 2, 5, 4, 17, 1, 0),
+    );
+    offers(
+        b"1000001 periods",
+        record_of(5, 4, 1, 2, 0, 1_000_001, 5_000_007, 1, 0),
+    );
+    offers(
+        b"one token sent too many",
+        record_of(5, 4, 1, 2, 0, 4, 23, 1, 0),
+    );
+    offers(
+        b"one token lost too many",
+        record_of(5, 4, 1, 2, 0, 4, 22, 1, 1),
+    );
+    offers(
+        b"over 65535 x periods",
+        record_of(5, 4, 1, 2, 0, 4, 22, 262_140, 0),
+    );
+    offers(
+        b"over one above 65535 x periods",
+        record_of(5, 4, 1, 2, 0, 4, 22, 262_141, 0),
+    );
 }
 
+// A total above its limit breaks another rule too, and so does a record of greatest figures.
 fn totals() {
-    let mut m = sound();
-    m.over = 262_140;
-    offers(b"over 65535 x periods", m);
-    let mut m = sound();
-    m.over = 262_141;
-    offers(b"over one above 65535 x periods", m);
-    let mut m = sound();
-    m.sent = 100_000_000_001;
-    offers(b"sent above its limit", m);
-    let mut m = sound();
-    m.over = 100_000_000_001;
-    offers(b"over above its limit", m);
-    let mut m = sound();
-    m.lost = 100_000_000_001;
-    offers(b"lost above its limit", m);
-    absurd();
-}
-
-// Every figure is the greatest that its field holds.
-fn absurd() {
     let most: u32 = 4_294_967_295;
     let total: u64 = 18_446_744_073_709_551_615;
-    let m = Meter {
-        bucket: Bucket {
-            rate: Rate(most),
-            depth: Depth(most),
-        },
-        factor: Factor { p: most, q: most },
-        held: most,
-        periods: most,
-        sent: total,
-        over: total,
-        lost: total,
-    };
-    offers(b"every figure at its greatest", m);
+    offers(
+        b"sent above its limit",
+        record_of(5, 4, 1, 2, 0, 4, 100_000_000_001, 1, 0),
+    );
+    offers(
+        b"over above its limit",
+        record_of(5, 4, 1, 2, 0, 4, 22, 100_000_000_001, 0),
+    );
+    offers(
+        b"lost above its limit",
+        record_of(5, 4, 1, 2, 0, 4, 22, 1, 100_000_000_001),
+    );
+    offers(
+        b"every figure at its greatest",
+        record_of(most, most, most, most, most, most, total, total, total),
+    );
 }
 
 fn last_periods() {
-    let mut m = sound();
-    m.periods = 999_999;
-    m.sent = 4_999_997;
-    offers(b"999999 periods", m);
-    let mut m = sound();
-    m.periods = 1_000_000;
-    m.sent = 5_000_002;
-    offers(b"1000000 periods", m);
-    m.sent = 5_000_003;
-    offers(b"1000000 periods and one token too many", m);
+    offers(
+        b"999999 periods",
+        record_of(5, 4, 1, 2, 0, 999_999, 4_999_997, 1, 0),
+    );
+    offers(
+        b"1000000 periods",
+        record_of(5, 4, 1, 2, 0, 1_000_000, 5_000_002, 1, 0),
+    );
+    offers(
+        b"1000000 periods and one token too many",
+        record_of(5, 4, 1, 2, 0, 1_000_000, 5_000_003, 1, 0),
+    );
 }
 
 // The least and the greatest offer, each to the same record.
@@ -208,12 +188,7 @@ fn same(a: Meter, b: Meter) -> bool {
 
 // A meter takes 1,000,000 offers and refuses the next.
 fn until_full() {
-    let mut m = sound();
-    m.held = 2;
-    m.periods = 0;
-    m.sent = 0;
-    m.over = 0;
-    let full = after_offers(m, 6, 1_000_000);
+    let full = after_offers(record_of(5, 4, 1, 2, 2, 0, 0, 0, 0), 6, 1_000_000);
     report::words(b"after 1000000 offers of 6:");
     figures(full);
     report::end_line();

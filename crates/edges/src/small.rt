@@ -1,11 +1,9 @@
 // Every small bucket, factor and trace of three periods: trial and meter against a plain run.
+use crate::bucket_of;
 use bucket::Meter;
 use bucket::MeterAnswer;
 use bucket::TrialAnswer;
-use terms::Bucket;
-use terms::Depth;
 use terms::Factor;
-use terms::Rate;
 
 // Rates 0 to 4, depths 0 to 5, factors 0/2 to 2/2 and demands 0 to 6.
 const CASES: u32 = 30_870;
@@ -34,10 +32,7 @@ fn agrees(n: u32) -> bool {
     let depth = n / 5 % 6;
     let p = n / 30 % 3;
     let trace: [u16; 3] = [demand(n / 90), demand(n / 630), demand(n / 4410)];
-    let bucket = Bucket {
-        rate: Rate(rate),
-        depth: Depth(depth),
-    };
+    let bucket = bucket_of(rate, depth);
     let factor = Factor { p, q: 2 };
     let wanted = plain_over(rate, depth, start(p, depth), trace);
     let tried = tried_over(bucket::trial(bucket, factor, &trace));

@@ -7,63 +7,52 @@ use terms::RatePrice;
 use terms::Tariff;
 
 pub fn edges() {
-    say(b"at its limits", limits());
-    prices();
-    factors();
-    caps();
+    say(
+        b"at its limits",
+        tariff_of(65_535, 65_535, 1_000_000_000, 1000, 1000, 4095, 1_000_000),
+    );
+    say(b"of zeros and q 1", tariff_of(0, 0, 0, 0, 1, 0, 0));
+    say(
+        b"rate price 65536",
+        tariff_of(65_536, 1, 4, 1, 2, 4095, 1_000_000),
+    );
+    say(
+        b"depth price 65536",
+        tariff_of(2, 65_536, 4, 1, 2, 4095, 1_000_000),
+    );
+    say(
+        b"fee 1000000001",
+        tariff_of(2, 1, 1_000_000_001, 1, 2, 4095, 1_000_000),
+    );
+    say(b"q 0", tariff_of(2, 1, 4, 0, 0, 4095, 1_000_000));
+    say(b"q 1001", tariff_of(2, 1, 4, 1, 1001, 4095, 1_000_000));
+    say(b"p one above q", tariff_of(2, 1, 4, 3, 2, 4095, 1_000_000));
+    say(b"rate cap 4096", tariff_of(2, 1, 4, 1, 2, 4096, 1_000_000));
+    say(
+        b"depth cap 1000001",
+        tariff_of(2, 1, 4, 1, 2, 4095, 1_000_001),
+    );
 }
 
-// Each figure is at its limit.
-fn limits() -> Tariff {
+// A tariff by its seven figures, in document 01's order: rate price, depth price, fee, p, q, rate
+// cap, depth cap.
+fn tariff_of(
+    rate_price: u32,
+    depth_price: u32,
+    fee: u32,
+    p: u32,
+    q: u32,
+    rate_cap: u32,
+    depth_cap: u32,
+) -> Tariff {
     Tariff {
-        rate_price: RatePrice(65_535),
-        depth_price: DepthPrice(65_535),
-        fee: 1_000_000_000,
-        factor: Factor { p: 1000, q: 1000 },
-        rate_cap: Rate(4095),
-        depth_cap: Depth(1_000_000),
+        rate_price: RatePrice(rate_price),
+        depth_price: DepthPrice(depth_price),
+        fee,
+        factor: Factor { p, q },
+        rate_cap: Rate(rate_cap),
+        depth_cap: Depth(depth_cap),
     }
-}
-
-fn prices() {
-    let mut t = limits();
-    t.rate_price.0 = 65_536;
-    say(b"rate price 65536", t);
-    let mut t = limits();
-    t.depth_price.0 = 65_536;
-    say(b"depth price 65536", t);
-    let mut t = limits();
-    t.fee = 1_000_000_001;
-    say(b"fee 1000000001", t);
-}
-
-fn factors() {
-    let mut t = limits();
-    t.factor.q = 0;
-    t.factor.p = 0;
-    say(b"q 0", t);
-    let mut t = limits();
-    t.factor.q = 1001;
-    say(b"q 1001", t);
-    let mut t = limits();
-    t.factor.q = 999;
-    say(b"p one above q", t);
-    let mut t = limits();
-    t.factor.p = 0;
-    say(b"p 0", t);
-}
-
-fn caps() {
-    let mut t = limits();
-    t.rate_cap.0 = 4096;
-    say(b"rate cap 4096", t);
-    let mut t = limits();
-    t.depth_cap.0 = 1_000_001;
-    say(b"depth cap 1000001", t);
-    let mut t = limits();
-    t.rate_cap.0 = 0;
-    t.depth_cap.0 = 0;
-    say(b"caps 0", t);
 }
 
 fn say(edge: &[u8], t: Tariff) {

@@ -1,21 +1,12 @@
 // Trials of buckets, factors and traces at their limits and past them.
-use terms::Bucket;
-use terms::Depth;
+use crate::bucket_of;
 use terms::Factor;
-use terms::Rate;
 
 pub fn edges() {
     buckets();
     factors();
     lengths();
     lowest_number();
-}
-
-fn bucket_of(rate: u32, depth: u32) -> Bucket {
-    Bucket {
-        rate: Rate(rate),
-        depth: Depth(depth),
-    }
 }
 
 // One period of the greatest demand.
