@@ -39,11 +39,11 @@ pub walking-start : (r B y : ℕ) (ds : List ℕ) (z : ℤ) → y ≤ depthLimit
 walking-start r B y ds z h k e =
     record { inside = omega arith; tokens = h; small = omega arith; overs = omega arith; spares = rw e (spares-start r B y ds k) }
 
-module _ (r B y₀ : ℕ) (ds : List ℕ) (y : ℕ) (least : ℤ) (sum i : ℕ) (k : Walking r B y₀ ds y least sum i) where
-  pub walking-step : (p : Period) (z : ℤ) → B ≤ depthLimit → i < length ds → getD ds i 0 ≤ demandLimit → p ≡ periodOf r B y (getD ds i 0)
+module _ {r B y₀ : ℕ} {ds : List ℕ} {y : ℕ} {least : ℤ} {sum i : ℕ} (k : Walking r B y₀ ds y least sum i) where
+  pub walking-step : {p : Period} {z : ℤ} → B ≤ depthLimit → i < length ds → getD ds i 0 ≤ demandLimit → p ≡ periodOf r B y (getD ds i 0)
       → z ≡ minZ least (gap r y (getD ds i 0)) → Walking r B y₀ ds (p .held) z (sum + p .over) (i + 1)
   unfolding sumOf gaps leastOf
-  walking-step p z b l h e f =
+  walking-step b l h e f =
       rw (e, f)
       (record {
         inside = omega arith;

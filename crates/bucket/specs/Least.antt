@@ -31,7 +31,7 @@ leZ-trans (negsuc a) (pos b) (negsuc c) h k = cc
 leZ-trans (negsuc a) (negsuc b) (pos c) h k = refl
 leZ-trans (negsuc a) (negsuc b) (negsuc c) h k = le-leb c a (le-trans (leb-true c b k) (leb-true b a h))
 
--- The smaller of two numbers is one of them, and at most each
+-- The smaller of two numbers is at most each, and one of them.
 min-is : (a b : ℤ) → (leZ (minZ a b) a ≡ true) × (leZ (minZ a b) b ≡ true) × ((minZ a b ≡ a) ⊎ (minZ a b ≡ b))
 min-is a b = go (leZ a b) refl
   where

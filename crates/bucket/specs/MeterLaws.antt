@@ -3,7 +3,7 @@
 use Prim.Native.Nat.{ℕ, _+_, _*_, _≤_, _<_}
 use native.Mathlib.Omega.{arith}
 use native.Mathlib.Nat.{mul-add, mul-le-mul}
-use mathlib.Core.Path.{_≡_, refl, ap}
+use mathlib.Core.Path.{_≡_, refl, sym, ap, _∙_}
 use mathlib.Core.Bool.{Bool, true, false}
 use borrow.Author.Tests.{leb-true, le-leb, eqb-true, eq-eqb, lt-ltb, le-ltb, ltb-true, ltb-false}
 use lib.Dec.{leb, ltb}
@@ -11,6 +11,7 @@ use Rattle.terms.specs.Limits.{demandLimit, rateLimit, meterLimit, totalLimit}
 use Rattle.terms.specs.declared.Bucket.{Bucket}
 use Rattle.terms.specs.declared.Factor.{Factor}
 use Rattle.terms.specs.Answer.{figures, refused, weigh}
+use Rattle.terms.specs.AnswerLaws.{figures-refused, refused-figures, same-figures, same-refusal}
 use Rattle.terms.specs.Bools.{and-three, and-six, both-and}
 use Rattle.terms.specs.Ranges.{freshOk}
 use Rattle.terms.specs.RangeLaws.{FreshRange, fresh-range, fresh-ok}
@@ -62,8 +63,8 @@ pub open-fresh : (b : Bucket) (f : Factor) (m : Meter) → openOf b f ≡ figure
 open-fresh b f m e = go (freshOk b f) refl e
   where
     go : (t : Bool) → freshOk b f ≡ t → weigh t 5 (figures (freshMeter b f)) ≡ figures m → (m ≡ freshMeter b f) × FreshRange b f
-    go true h k = (cc, fresh-range b f h)
-    go false h k = absurd (let z : _≡_ {A = ℕ} 0 1 = cc in omega arith)
+    go true h k = (sym (same-figures k), fresh-range b f h)
+    go false h k = absurd (refused-figures k)
 
 -- ---- One offer
 
@@ -89,8 +90,8 @@ pub sound-never-8 : (m : Meter) (d : ℕ) → Sound m → offerOf m d ≡ refuse
 sound-never-8 m d k e = go (ltb (m .periods) meterLimit) refl
   where
     go : (b : Bool) → ltb (m .periods) meterLimit ≡ b → ⊥
-    go true t = let x = offer-taken m d (sound-meter m k) (ltb-true _ _ t) in let z : _≡_ {A = ℕ} 0 1 = cc in omega arith
-    go false t = let x = offer-full m d (sound-meter m k) (ltb-false _ _ t) in let z : _≡_ {A = ℕ} 8 9 = cc in omega arith
+    go true t = figures-refused (sym (offer-taken m d (sound-meter m k) (ltb-true _ _ t)) ∙ e)
+    go false t = let z = same-refusal (sym (offer-full m d (sound-meter m k) (ltb-false _ _ t)) ∙ e) in omega arith
 
 -- An accepted offer keeps the balance: what the period brings is what it sends, loses and leaves.
 balance-more : (start r B y n s l d : ℕ) → start + r * n ≡ s + l + y → start + r * (n + 1) ≡ s + sent r y d + (l + lost r B y d) + held r B y d

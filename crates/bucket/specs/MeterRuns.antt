@@ -6,9 +6,9 @@ use native.Mathlib.Omega.{arith}
 use native.Mathlib.Nat.{add-assoc}
 use mathlib.Core.Path.{_≡_, refl, sym, ap, _∙_}
 use mathlib.Core.Bool.{Bool, true, false}
+use mathlib.Core.List.{List, [], _∷_}
 use borrow.Author.Tests.{ltb-true, ltb-false}
 use lib.Dec.{ltb}
-use mathlib.Core.List.{List, [], _∷_}
 use lib.ListN.{length, take, length-take}
 use lib.Seq.{take-all, take-nil}
 use Rattle.terms.specs.declared.Bucket.{Bucket}
@@ -41,19 +41,19 @@ advanced m ds =
       lost = m .lost + lostAll r B (m .held) ds;
     }
 
-meter-by : (b : Bucket) (f : Factor) (y n n′ s s′ o o′ l l′ : ℕ) → n ≡ n′ → s ≡ s′ → o ≡ o′ → l ≡ l′
+meter-by : {b : Bucket} {f : Factor} {y n n′ s s′ o o′ l l′ : ℕ} → n ≡ n′ → s ≡ s′ → o ≡ o′ → l ≡ l′
     → _≡_ {A = Meter} (record { bucket = b; factor = f; held = y; periods = n; sent = s; over = o; lost = l })
     (record { bucket = b; factor = f; held = y; periods = n′; sent = s′; over = o′; lost = l′ })
-meter-by b f y n n′ s s′ o o′ l l′ en es eo el = cc
+meter-by en es eo el = cc
 
 advanced-none : (m : Meter) → m ≡ advanced m []
 unfolding heldAfter sumOf
-advanced-none m = meter-by _ _ _ _ _ _ _ _ _ _ _ (omega arith) (omega arith) (omega arith) (omega arith)
+advanced-none m = meter-by (omega arith) (omega arith) (omega arith) (omega arith)
 
 advanced-more : (m : Meter) (d : ℕ) (ds : List ℕ)
     → advanced (recordAfter m (figures (periodOf (m .bucket .rate .0) (m .bucket .depth .0) (m .held) d))) ds ≡ advanced m (d ∷ ds)
 unfolding heldAfter sumOf
-advanced-more m d ds = meter-by _ _ _ _ _ _ _ _ _ _ _ (omega arith) (add-assoc _ _ _) (add-assoc _ _ _) (add-assoc _ _ _)
+advanced-more m d ds = meter-by (omega arith) (add-assoc _ _ _) (add-assoc _ _ _) (add-assoc _ _ _)
 
 -- What any list of offers does to a sound record: it stays sound, takes offers until it is full, and counts just those.
 pub record Metered (m : Meter) (ds : List ℕ) : Type 0 where
@@ -115,7 +115,7 @@ module _ (b : Bucket) (f : Factor) (range : FreshRange b f) where
     opened-accepts = all .accepts
 
     first : afterOffers (freshMeter b f) ds ≡ meterOn b f (take meterLimit ds)
-    first = all .records ∙ meter-by _ _ _ _ _ _ _ _ _ _ _ (omega arith) (omega arith) (omega arith) (omega arith)
+    first = all .records ∙ meter-by (omega arith) (omega arith) (omega arith) (omega arith)
 
     -- Each total is the sum over the accepted offers.
     pub opened-totals : afterOffers (freshMeter b f) ds ≡ meterOn b f (accepted (freshMeter b f) ds)

@@ -1,9 +1,7 @@
 -- A row of the table of figures, and the test that it holds.
 -- Assumes nothing.
-use Prim.Native.Nat.{ℕ}
-use native.Mathlib.Omega.{arith}
 use mathlib.Core.Path.{_≡_, refl, ap}
-use mathlib.Core.Bool.{Bool, true, false, _&&_}
+use mathlib.Core.Bool.{Bool, true, false, false≢true, _&&_}
 use mathlib.Core.List.{List, [], _∷_}
 use borrow.Author.Tests.{eqb-true}
 use lib.Dec.{eqb}
@@ -53,21 +51,18 @@ abbrev pub Hold : List Row → Type 0
 Hold [] = Unit
 Hold (x ∷ xs) = (x .given ≡ x .paper) × Hold xs
 
-not-same : false ≡ true → ⊥
-not-same h = let e : _≡_ {A = ℕ} 0 1 = cc in omega arith
-
 same-number : (a b : ℤ) → sameNumber a b ≡ true → a ≡ b
 unfolding sameNumber
 same-number (pos a) (pos b) h = ap pos (eqb-true a b h)
-same-number (pos a) (negsuc b) h = absurd (not-same h)
-same-number (negsuc a) (pos b) h = absurd (not-same h)
+same-number (pos a) (negsuc b) h = absurd (false≢true h)
+same-number (negsuc a) (pos b) h = absurd (false≢true h)
 same-number (negsuc a) (negsuc b) h = ap negsuc (eqb-true a b h)
 
 same-list : (xs ys : List ℤ) → sameList xs ys ≡ true → xs ≡ ys
 unfolding sameList
 same-list [] [] h = refl
-same-list [] (y ∷ ys) h = absurd (not-same h)
-same-list (x ∷ xs) [] h = absurd (not-same h)
+same-list [] (y ∷ ys) h = absurd (false≢true h)
+same-list (x ∷ xs) [] h = absurd (false≢true h)
 same-list (x ∷ xs) (y ∷ ys) h =
     let k = and-both (sameNumber x y) (sameList xs ys) h in
     rw (same-number x y (k .0), same-list xs ys (k .1))
@@ -75,8 +70,8 @@ same-list (x ∷ xs) (y ∷ ys) h =
 same-answer : (a b : Answer (List ℤ)) → sameAnswer a b ≡ true → a ≡ b
 unfolding sameAnswer
 same-answer (figures xs) (figures ys) h = ap figures (same-list xs ys h)
-same-answer (figures xs) (refused n) h = absurd (not-same h)
-same-answer (refused m) (figures ys) h = absurd (not-same h)
+same-answer (figures xs) (refused n) h = absurd (false≢true h)
+same-answer (refused m) (figures ys) h = absurd (false≢true h)
 same-answer (refused m) (refused n) h = ap refused (eqb-true m n h)
 
 pub all-hold : (xs : List Row) → allRight xs ≡ true → Hold xs

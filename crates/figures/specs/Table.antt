@@ -1,9 +1,9 @@
 -- The lettered figures of document 01, "Figures to hold the definitions to": one table, and one test over it.
 -- Assumes nothing.
+use Prim.Native.Nat.{ℕ}
 use mathlib.Core.Path.{_≡_, refl}
 use mathlib.Core.Bool.{true}
 use mathlib.Core.List.{List, [], _∷_}
-use Prim.Native.Nat.{ℕ}
 use lib.IntN.{ℤ, pos, negsuc}
 use Rattle.terms.specs.declared.Bucket.{Bucket}
 use Rattle.terms.specs.declared.Factor.{Factor}
@@ -16,7 +16,7 @@ use Rattle.bucket.specs.Trial.{trialFigures, trialOf}
 use Rattle.bucket.specs.Meter.{meterOk, openOf, offerOf, afterOffers}
 use Rattle.figures.specs.Rows.{Row, rowOf, allRight, Hold, all-hold}
 
--- the tariff of the printed case: factor 1/2
+-- the factor of the printed case
 half : Factor
 half = record { p = 1; q = 2 }
 

@@ -1,12 +1,10 @@
 // What the test programs print, a field at a time. For them alone: no contract can say what a
 // program writes, so each program's output is held to a stored one.
-use bucket::OfferAnswer;
-use bucket::Offered;
 use bucket::TrialAnswer;
 use libc::STDOUT_FILENO;
+use terms::Refusal;
 ghost use mathlib.Core.Path.{_≡_};
 ghost use lib.IntN.{natAbs};
-use terms::Refusal;
 
 // Words as they stand.
 pub fn words(text: &[u8]) {

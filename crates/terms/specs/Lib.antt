@@ -3,6 +3,7 @@ pub mod Answer
 pub mod Refusals
 pub mod Limits
 pub mod Ranges
+pub mod AnswerLaws
 pub mod Bools
 pub mod RangeLaws
 pub mod RefusalLaws

@@ -1,11 +1,11 @@
--- What a figure in its range is known to be, as orders of numbers. Each range is equivalent to its test.
+-- Ranges as orders of numbers, and that each is equivalent to its test.
 -- Assumes nothing.
 use Prim.Native.Nat.{ℕ, _≤_}
 use native.Mathlib.Omega.{arith}
 use mathlib.Core.Path.{_≡_}
 use mathlib.Core.Bool.{true}
-use lib.Dec.{leb}
 use borrow.Author.Tests.{leb-true, le-leb}
+use lib.Dec.{leb}
 use Rattle.terms.specs.declared.Factor.{Factor}
 use Rattle.terms.specs.declared.Bucket.{Bucket}
 use Rattle.terms.specs.Limits.{rateLimit, depthLimit, partsLimit, traceLimit}
@@ -53,3 +53,6 @@ pub record PeriodsRange (n : ℕ) : Type 0 where
 
 pub periods-range : (n : ℕ) → periodsOk n ≡ true → PeriodsRange n
 periods-range n h = let k = and-both (leb 1 n) (leb n traceLimit) h in omega (arith, leb-true)
+
+pub periods-ok : (n : ℕ) → PeriodsRange n → periodsOk n ≡ true
+periods-ok n k = both-and (le-leb _ _ (k .some)) (le-leb _ _ (k .few))

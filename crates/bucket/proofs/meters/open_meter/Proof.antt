@@ -2,9 +2,9 @@
 use mathlib.Core.Path.{_≡_, sym, _∙_}
 use mathlib.Core.Bool.{true}
 use borrow.Author.Tests.{not-true, not-false}
+use borrow.Author.Needs.{needs}
 use Rattle.terms.specs.Ranges.{freshOk}
 use Rattle.terms.specs.RangeLaws.{fresh-range}
-use borrow.Author.Needs.{needs}
 use Rattle.bucket.proofs.meters.open_meter.Statement.{statement}
 use Rattle.bucket.proofs.meters.open_meter.Tie as tie
 

@@ -2,11 +2,11 @@
 use mathlib.Core.Path.{_≡_, sym, _∙_}
 use mathlib.Core.Bool.{true}
 use borrow.Author.Tests.{not-true, not-false}
+use borrow.Author.Needs.{needs}
 use Rattle.terms.specs.Ranges.{freshOk}
 use Rattle.terms.specs.RangeLaws.{fresh-range}
 use Rattle.bucket.specs.Meter.{countsOk, meterOk}
 use Rattle.bucket.specs.MeterLaws.{counts-range}
-use borrow.Author.Needs.{needs}
 use Rattle.bucket.proofs.meters.record_in_order.Statement.{statement}
 use Rattle.bucket.proofs.meters.record_in_order.Tie as tie
 

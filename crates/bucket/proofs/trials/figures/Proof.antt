@@ -1,15 +1,15 @@
 -- The walk's invariant is `Walking`; each turn is one period of the definition, and at the end nothing of the trace is left.
 use Prim.Native.Nat.{ℕ, _-_, _^_, _≤_, _<_}
 use native.Mathlib.Omega.{arith}
+use mathlib.Core.Path.{_≡_, _∙_, ap}
+use mathlib.Core.List.{List}
 use borrow.Author.Needs.{needs}
 use lib.ListN.{length}
+use lib.IntN.{ℤ}
+use lib.Signed.{mag}
 use mir.Syntax.{w64}
 use mir.Val.{toZ, ofZ}
 use mir.Facts.{toZ-ofZ}
-use mathlib.Core.Path.{_≡_, _∙_, ap}
-use mathlib.Core.List.{List}
-use lib.IntN.{ℤ}
-use lib.Signed.{mag}
 use Rattle.terms.specs.declared.Bucket.{Bucket}
 use Rattle.terms.specs.declared.Factor.{Factor}
 use Rattle.terms.specs.Limits.{depthLimit}
@@ -75,7 +75,7 @@ loop-again : tie.Need-loop-again Inv-loop μ-loop
 loop-again c =
     let d = c .before .before .before .before .before .before in
     let h = d .before .before .before .before .before .before .pre in
-    walking-step _ _ _ _ _ _ _ _ (d .loop .inv) _ _ (h .0 .bucket .depths) (c .before .before .before .before .before .loop-test .taken)
+    walking-step (d .loop .inv) (h .0 .bucket .depths) (c .before .before .before .before .before .loop-test .taken)
     (omega (arith, c .before .before .before .before .shared-slice-known3 .given (d .loop .i)))
     (c .before .step .ensures)
     (back (c .before .before .lesser .ok) ∙ c .before .before .lesser .ensures ∙ ap (minZ (toZ w64 (d .loop .spare))) (back (c .before .before .before .to-spare2 .ok) ∙ c .before .before .before .to-spare2 .ensures))
@@ -93,7 +93,7 @@ returns : tie.Need-returns Inv-loop μ-loop
 returns c =
     let k = c .before .loop .inv in
     let l = c .loop-test .left in
-    figures-by _ _ _ _ _ _ (c .before .before .before .before .starting-tokens .ensures) (spare-end _ _ _ _ _ _ _ _ k l) (over-end _ _ _ _ _ _ _ _ k l)
+    figures-by _ _ _ _ _ _ (c .before .before .before .before .starting-tokens .ensures) (spare-end k l) (over-end k l)
 
 pub figures-spec : {M : Type 1} → statement M
 figures-spec =
