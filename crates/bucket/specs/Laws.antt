@@ -4,7 +4,7 @@
 use Prim.Native.Nat.{ℕ, zero, suc, _+_, _-_, _*_, _≤_, _<_}
 use native.Mathlib.Omega.{arith}
 use native.Mathlib.Nat.{add-zero, sub-zero, mul-suc, div-le-of-le-mul, mul-le-mul-right, mul-le-mul-left, div-zero, le-div-iff-mul-le, div-mul-le-self, le-trans, le-refl, min-eq-left, le-min}
-use mathlib.Core.Path.{_≡_, refl, sym, _∙_}
+use mathlib.Core.Path.{_≡_, refl, sym, subst, _∙_}
 use mathlib.Core.Bool.{Bool, true, false, _&&_, and-true, and-assoc, cond}
 use mathlib.Core.List.{List, [], _∷_, List·Memᴰ, List·Memᴰ·cases-cons, List·Memᴰ·not-nil}
 use mathlib.Core.Logic.{⊎-elim}
@@ -12,7 +12,7 @@ use borrow.Author.Tests.{eqb-true, eq-eqb, ne-eqb, ltb-true, ltb-false}
 use lib.Dec.{eqb, ltb, leb·suc-zero}
 use lib.ListN.{length}
 use lib.IntN.{ℤ, pos, negsuc, subℕ, _-ℤ_}
-use lib.Signed.{leZ, nonNeg}
+use lib.Signed.{nonNeg, _≤ℤ_}
 use Rattle.terms.specs.Bools.{and-both, both-and}
 use Rattle.bucket.specs.Step.{startOf, over, held}
 use Rattle.bucket.specs.Least.{min-nonneg, least-first, least-each, least-one}
@@ -114,11 +114,11 @@ carried-spare r B y (d ∷ ds) = least-gaps r B (held r B y d) (gap r y d) ds �
 
 -- Spare is at most y + r − d in each period, and equal to it in one: it is the least of them.
 
-pub spare-each : (r B y : ℕ) (ds : List ℕ) (x : ℤ) → List·Memᴰ x (gaps r B y ds) → leZ (spareFrom r B y ds) x ≡ true
+pub spare-each : (r B y : ℕ) (ds : List ℕ) (x : ℤ) → List·Memᴰ x (gaps r B y ds) → spareFrom r B y ds ≤ℤ x
 unfolding gaps spareFrom
 spare-each r B y [] x m = absurd (List·Memᴰ·not-nil m)
 spare-each r B y (d ∷ ds) x m =
-    ⊎-elim (λ e. rw e (least-first (gap r y d) (gaps r B (held r B y d) ds)))
+    ⊎-elim (λ e. subst (λ (v : ℤ). leastOf (gap r y d) (gaps r B (held r B y d) ds) ≤ℤ v) (sym e) (least-first (gap r y d) (gaps r B (held r B y d) ds)))
     (λ n. least-each (gap r y d) (gaps r B (held r B y d) ds) x n) (List·Memᴰ·cases-cons m)
 
 pub spare-one : (r B y d : ℕ) (ds : List ℕ) → List·Memᴰ (spareFrom r B y (d ∷ ds)) (gaps r B y (d ∷ ds))

@@ -11,7 +11,7 @@ use Rattle.terms.specs.Limits.{demandLimit, rateLimit, meterLimit, totalLimit}
 use Rattle.terms.specs.declared.Bucket.{Bucket}
 use Rattle.terms.specs.declared.Factor.{Factor}
 use Rattle.terms.specs.Answer.{figures, refused, weigh}
-use Rattle.terms.specs.AnswerLaws.{figures-refused, refused-figures, same-figures, same-refusal}
+use Rattle.terms.specs.AnswerLaws.{figures-refused, same-figures, same-refusal}
 use Rattle.terms.specs.Bools.{and-three, and-six, both-and}
 use Rattle.terms.specs.Ranges.{freshOk}
 use Rattle.terms.specs.RangeLaws.{FreshRange, fresh-range, fresh-ok}
@@ -64,7 +64,7 @@ open-fresh b f m e = go (freshOk b f) refl e
   where
     go : (t : Bool) → freshOk b f ≡ t → weigh t 5 (figures (freshMeter b f)) ≡ figures m → (m ≡ freshMeter b f) × FreshRange b f
     go true h k = (sym (same-figures k), fresh-range b f h)
-    go false h k = absurd (refused-figures k)
+    go false h k = absurd (figures-refused (sym k))
 
 -- ---- One offer
 

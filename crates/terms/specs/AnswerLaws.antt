@@ -8,9 +8,6 @@ use Rattle.terms.specs.Answer.{Answer, figures, refused}
 pub figures-refused : {A : Type 0} {x : A} {n : ℕ} → figures x ≡ refused n → ⊥
 figures-refused e = let z : _≡_ {A = ℕ} 0 1 = cc in omega arith
 
-pub refused-figures : {A : Type 0} {x : A} {n : ℕ} → refused n ≡ figures x → ⊥
-refused-figures e = let z : _≡_ {A = ℕ} 0 1 = cc in omega arith
-
 pub same-figures : {A : Type 0} {x y : A} → figures x ≡ figures y → x ≡ y
 same-figures e = cc
 

@@ -1,7 +1,8 @@
--- Laws of a conjunction that is true.
+-- Laws of tests: a conjunction that is true, and a branch on the negation of a call's answer.
 -- Assumes nothing.
-use mathlib.Core.Path.{_≡_, refl}
-use mathlib.Core.Bool.{Bool, true, false, _&&_}
+use mathlib.Core.Path.{_≡_, refl, sym, _∙_}
+use mathlib.Core.Bool.{Bool, true, false, not, _&&_}
+use borrow.Author.Tests.{not-true, not-false}
 
 pub and-both : (a b : Bool) → a && b ≡ true → (a ≡ true) × (b ≡ true)
 and-both true b h = (refl, h)
@@ -23,3 +24,10 @@ and-six a b c d e f h =
 
 pub both-and : {a b : Bool} → a ≡ true → b ≡ true → a && b ≡ true
 both-and h k = rw (h, k)
+
+-- After `if !check(..) { return .. }`, with a the call's answer and b what it promises: what holds past the branch and in it.
+pub check-passed : {a b : Bool} → a ≡ b → not a ≡ false → b ≡ true
+check-passed e h = sym e ∙ not-false _ h
+
+pub check-failed : {a b : Bool} → a ≡ b → not a ≡ true → b ≡ false
+check-failed e h = sym e ∙ not-true _ h

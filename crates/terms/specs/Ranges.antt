@@ -12,7 +12,7 @@ use Rattle.terms.specs.declared.Tariff.{Tariff}
 abbrev pub factorOk : Factor → Bool
 factorOk f = leb (f .p) (f .q) && leb 1 (f .q) && leb (f .q) partsLimit
 
--- rate at most 4,095 and depth at most 1,000,000: a bucket for a trial or a meter, or in a plan, and the caps of a tariff
+-- rate at most 4,095 and depth at most 1,000,000: a bucket for a trial or a meter, or in a plan
 abbrev pub bucketOk : Bucket → Bool
 bucketOk b = leb (b .rate .0) rateLimit && leb (b .depth .0) depthLimit
 
@@ -20,11 +20,12 @@ bucketOk b = leb (b .rate .0) rateLimit && leb (b .depth .0) depthLimit
 abbrev pub freshOk : Bucket → Factor → Bool
 freshOk b f = bucketOk b && factorOk f
 
--- rate price and depth price 0..65,535; setup fee 0..1,000,000,000; rate cap and depth cap as in a bucket; the factor
+-- the seven figures in the paper's order: rate price and depth price 0..65,535; setup fee 0..1,000,000,000; p and q;
+-- rate cap 0..4,095; depth cap 0..1,000,000
 abbrev pub tariffOk : Tariff → Bool
 tariffOk t =
-    leb (t .«rate_price» .0) priceLimit && leb (t .«depth_price» .0) priceLimit && leb (t .fee) feeLimit
-    && freshOk (record { rate = t .«rate_cap»; depth = t .«depth_cap» }) (t .factor)
+    leb (t .«rate_price» .0) priceLimit && leb (t .«depth_price» .0) priceLimit && leb (t .fee) feeLimit && factorOk (t .factor)
+    && leb (t .«rate_cap» .0) rateLimit && leb (t .«depth_cap» .0) depthLimit
 
 -- T is 1..512
 abbrev pub periodsOk : ℕ → Bool

@@ -36,14 +36,13 @@ pub fn fresh_in_range(b: Bucket, f: Factor) -> bool
 pub fn tariff_in_range(t: Tariff) -> bool
     ensures { λ r. ⌜ r ≡ tariffOk t ⌝ }
 {
-    let rate = t.rate_cap;
-    let depth = t.depth_cap;
     let factor = t.factor;
-    let caps = Bucket { rate, depth };
     (t.rate_price.0 <= PRICE_LIMIT)
         & (t.depth_price.0 <= PRICE_LIMIT)
         & (t.fee <= FEE_LIMIT)
-        & fresh_in_range(caps, factor)
+        & factor_in_range(factor)
+        & (t.rate_cap.0 <= RATE_LIMIT)
+        & (t.depth_cap.0 <= DEPTH_LIMIT)
 }
 
 // Whether a trace, or a run, may have n periods: 1 to 512.

@@ -1,12 +1,11 @@
 -- Below 0 the bits turned over are one less than the magnitude; else they are the number.
-use Prim.Native.Nat.{ℕ, suc, _+_, _-_, _^_, _<_}
+use Prim.Native.Nat.{suc, _+_, _-_, _^_, _<_}
 use native.Mathlib.Omega.{arith}
 use mathlib.Core.Path.{_≡_, ap, _∙_}
-use mathlib.Core.Bool.{true, false}
+use mathlib.Core.Bool.{true}
 use borrow.Author.Tests.{ltb-true}
-use lib.Dec.{T}
 use lib.IntN.{ℤ, pos, negsuc, natAbs}
-use lib.Signed.{nonNeg, ltZ}
+use lib.Signed.{ltZ, ltZ-no, yes-nonNeg, natAbs-le}
 use mir.Syntax.{w64}
 use mir.Val.{SFits, toZ, ofZ}
 use mir.Facts.{toZ-ofZ, toZ-pos}
@@ -21,17 +20,9 @@ turned (negsuc n) f h =
     let e : 18446744073709551615 - (2 ^ 64 - suc n) ≡ n = omega arith in
     rw e (toZ-pos w64 l ∙ ap pos (omega arith))
 
-small : (z : ℤ) → SFits w64 z → natAbs z < 2 ^ 63 + 1
-small (pos n) f = omega (arith, f .sfits)
-small (negsuc n) f = omega (arith, f .sfits)
-
 some : (z : ℤ) → ltZ z (pos 0) ≡ true → natAbs z - 1 + 1 ≡ natAbs z
 some (pos n) h = absurd (omega (arith, ltb-true n 0 h))
 some (negsuc n) h = omega arith
-
-above : (z : ℤ) → ltZ z (pos 0) ≡ false → T (nonNeg z)
-above (pos n) h = tt
-above (negsuc n) h = absurd (let e : _≡_ {A = ℕ} 0 1 = cc in omega arith)
 
 -- the number whose bits were tested
 below : (c : tie.Then1) → ltZ (c .before .args .z) (pos 0) ≡ true
@@ -41,19 +32,19 @@ cast-result : tie.Need-cast-result
 cast-result c =
     let z = c .before .args .z in
     let f = c .before .fits .z in
-    rw (turned z f (below c)) (tt, record { fits = omega (arith, small z f) })
+    rw (turned z f (below c)) (tt, record { fits = omega (arith, natAbs-le z (f .sfits)) })
 
 add-result : tie.Need-add-result
 add-result c =
     let z = c .before .args .z in
     let f = c .before .fits .z in
-    rw (turned z f (below c)) (record { fits = omega (arith, small z f) })
+    rw (turned z f (below c)) (record { fits = omega (arith, natAbs-le z (f .sfits)) })
 
 cast-result-2 : tie.Need-cast-result-2
 cast-result-2 c =
     let z = c .before .args .z in
     let f = c .before .fits .z in
-    rw (toZ-ofZ f) (above z (rw (toZ-ofZ f) at (c .if1 .left)), record { fits = omega (arith, small z f) })
+    rw (toZ-ofZ f) (yes-nonNeg (ltZ-no {a = z} {b = pos 0} (rw (rw (toZ-ofZ f) at (c .if1 .left)) tt)), record { fits = omega (arith, natAbs-le z (f .sfits)) })
 
 returns : tie.Need-returns
 returns c =

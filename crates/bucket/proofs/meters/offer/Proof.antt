@@ -1,13 +1,13 @@
 -- Each return is one of the three cases of the offer's definition, and the record follows its answer.
 use Prim.Native.Nat.{_+_}
 use native.Mathlib.Omega.{arith}
-use mathlib.Core.Path.{_≡_, sym, ap, _∙_}
+use mathlib.Core.Path.{_≡_, ap}
 use mathlib.Core.Bool.{true}
 use borrow.Author.Needs.{needs}
-use borrow.Author.Tests.{not-true, not-false}
 use Rattle.bucket.specs.declared.meters.Meter.{Meter}
 use Rattle.bucket.specs.Meter.{meterOk}
 use Rattle.bucket.specs.MeterLaws.{meter-sound, offer-broken, offer-full, offer-taken}
+use Rattle.terms.specs.Bools.{check-passed, check-failed}
 use Rattle.bucket.proofs.meters.offer.Statement.{statement}
 use Rattle.bucket.proofs.meters.offer.Tie as tie
 
@@ -21,12 +21,12 @@ returns : tie.Need-returns
 returns c =
     let d = c .before .before in
     let a = d .before .args in
-    let e = offer-broken (a .meter) (a .demand) (sym (d .record-in-order .ensures) ∙ not-true _ (c .before .if1 .taken)) in
+    let e = offer-broken (a .meter) (a .demand) (check-failed (d .record-in-order .ensures) (c .before .if1 .taken)) in
     record { answers = rw (e, c .refuse .ensures); records = rw (e, c .refuse .ensures) }
 
 -- past the first test
 in-order : (c : tie.Else1) → meterOk (c .before .before .args .meter) ≡ true
-in-order c = sym (c .before .record-in-order .ensures) ∙ not-false _ (c .if1 .left)
+in-order c = check-passed (c .before .record-in-order .ensures) (c .if1 .left)
 
 step-requires : tie.Need-step-requires
 step-requires c κs =

@@ -1,12 +1,12 @@
 -- The record's rule is the conjunction of three tests; each return is where one of them decides.
-use mathlib.Core.Path.{_≡_, sym, _∙_}
+use mathlib.Core.Path.{_≡_}
 use mathlib.Core.Bool.{true}
-use borrow.Author.Tests.{not-true, not-false}
 use borrow.Author.Needs.{needs}
 use Rattle.terms.specs.Ranges.{freshOk}
 use Rattle.terms.specs.RangeLaws.{fresh-range}
 use Rattle.bucket.specs.Meter.{countsOk, meterOk}
 use Rattle.bucket.specs.MeterLaws.{counts-range}
+use Rattle.terms.specs.Bools.{check-passed, check-failed}
 use Rattle.bucket.proofs.meters.record_in_order.Statement.{statement}
 use Rattle.bucket.proofs.meters.record_in_order.Tie as tie
 
@@ -15,22 +15,22 @@ fresh-in-range-requires c κs = search needs
 
 -- past the first test
 fresh : (c : tie.Else1) → let m = c .before .before .before .before .args .m in freshOk (m .bucket) (m .factor) ≡ true
-fresh c = sym (c .before .fresh-in-range .ensures) ∙ not-false _ (c .if1 .left)
+fresh c = check-passed (c .before .fresh-in-range .ensures) (c .if1 .left)
 
 -- past the second
 counts : (c : tie.Else2) → countsOk (c .before .before .before .before .before .before .args .m) ≡ true
-counts c = sym (c .before .counts-in-range .ensures) ∙ not-false _ (c .if2 .left)
+counts c = check-passed (c .before .counts-in-range .ensures) (c .if2 .left)
 
 returns : tie.Need-returns
 unfolding meterOk
-returns c = rw (sym (c .before .fresh-in-range .ensures) ∙ not-true _ (c .if1 .taken))
+returns c = rw (check-failed (c .before .fresh-in-range .ensures) (c .if1 .taken))
 
 counts-in-range-requires : tie.Need-counts-in-range-requires
 counts-in-range-requires c κs = search needs
 
 returns-2 : tie.Need-returns-2
 unfolding meterOk
-returns-2 c = rw (fresh (c .before .before), sym (c .before .counts-in-range .ensures) ∙ not-true _ (c .if2 .taken))
+returns-2 c = rw (fresh (c .before .before), check-failed (c .before .counts-in-range .ensures) (c .if2 .taken))
 
 balances-requires : tie.Need-balances-requires
 balances-requires c κs = (fresh-range _ _ (fresh (c .before .before)), counts-range _ (counts c))
