@@ -10,13 +10,14 @@ use mathlib.Core.List.{List, [], _∷_, List·Memᴰ, List·Memᴰ·cases-cons, 
 use mathlib.Core.Logic.{⊎-elim}
 use borrow.Author.Tests.{eqb-true, eq-eqb, ne-eqb, ltb-true, ltb-false}
 use lib.Dec.{eqb, ltb, leb·suc-zero}
-use lib.ListN.{length}
+use lib.ListN.{length, getD, take}
 use lib.IntN.{ℤ, pos, negsuc, subℕ, _-ℤ_}
 use lib.Signed.{nonNeg, _≤ℤ_}
+use Rattle.terms.specs.Limits.{demandLimit}
 use Rattle.terms.specs.Bools.{and-both, both-and}
 use Rattle.bucket.specs.Step.{startOf, over, held}
 use Rattle.bucket.specs.Least.{min-nonneg, least-first, least-each, least-one}
-use Rattle.bucket.specs.Trace.{heldAfter, sumOf, sentAll, overAll, lostAll, carriesFrom, carries, gap, gaps, minZ, leastOf, spareFrom}
+use Rattle.bucket.specs.Trace.{Demands, heldAfter, sumOf, sentAll, overAll, lostAll, carriesFrom, carries, gap, gaps, minZ, leastOf, spareFrom}
 
 -- Starting tokens plus r for each period is what was sent, lost and is still held.
 pub conservation : (r B y : ℕ) (ds : List ℕ) → y + r * length ds ≡ sentAll r B y ds + lostAll r B y ds + heldAfter r B y ds
@@ -84,6 +85,19 @@ module _ (p q r B : ℕ) (ds : List ℕ) where
 
   pub carries-lighter : (es : List ℕ) → Lighter es ds → carries p q r B ds ≡ true → carries p q r B es ≡ true
   carries-lighter es l = carried-more r r B B _ _ (omega arith) (omega arith) (omega arith) l
+
+-- The first periods of a trace of 16-bit numbers are such a trace.
+pub demands-take : (n : ℕ) (ds : List ℕ) → Demands ds → Demands (take n ds)
+demands-take zero ds h = record { each = λ i. omega arith }
+demands-take (suc n) [] h = h
+demands-take (suc n) (d ∷ ds) h = demands-cons d (take n ds) (h .each 0) (demands-take n ds (record { each = λ i. h .each (suc i) }))
+  where
+    demands-cons : (d : ℕ) (ds : List ℕ) → d ≤ demandLimit → Demands ds → Demands (d ∷ ds)
+    demands-cons d ds l k = record { each = each-of }
+      where
+        each-of : (i : ℕ) → getD (d ∷ ds) i 0 ≤ demandLimit
+        each-of zero = l
+        each-of (suc i) = k .each i
 
 -- ---- Spare
 

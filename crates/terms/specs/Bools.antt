@@ -25,6 +25,11 @@ and-six a b c d e f h =
 pub both-and : {a b : Bool} → a ≡ true → b ≡ true → a && b ≡ true
 both-and h k = rw (h, k)
 
+-- What is not true is false.
+pub not-true-false : (b : Bool) → (b ≡ true → ⊥) → b ≡ false
+not-true-false true h = absurd (h refl)
+not-true-false false h = refl
+
 -- After `if !check(..) { return .. }`, with a the call's answer and b what it promises: what holds past the branch and in it.
 pub check-passed : {a b : Bool} → a ≡ b → not a ≡ false → b ≡ true
 check-passed e h = sym e ∙ not-false _ h

@@ -8,9 +8,10 @@ use borrow.Author.Tests.{leb-true, le-leb}
 use lib.Dec.{leb}
 use Rattle.terms.specs.declared.Factor.{Factor}
 use Rattle.terms.specs.declared.Bucket.{Bucket}
-use Rattle.terms.specs.Limits.{rateLimit, depthLimit, partsLimit, traceLimit}
-use Rattle.terms.specs.Ranges.{factorOk, bucketOk, freshOk, periodsOk}
-use Rattle.terms.specs.Bools.{and-both, and-three, both-and}
+use Rattle.terms.specs.declared.Tariff.{Tariff}
+use Rattle.terms.specs.Limits.{rateLimit, depthLimit, priceLimit, feeLimit, partsLimit, traceLimit}
+use Rattle.terms.specs.Ranges.{factorOk, bucketOk, freshOk, tariffOk, periodsOk}
+use Rattle.terms.specs.Bools.{and-both, and-three, and-six, both-and}
 
 pub record FactorRange (f : Factor) : Type 0 where
   pub part : f .p ≤ f .q
@@ -46,6 +47,32 @@ fresh-range b f h =
 
 pub fresh-ok : (b : Bucket) (f : Factor) → FreshRange b f → freshOk b f ≡ true
 fresh-ok b f k = both-and (bucket-ok b (k .bucket)) (factor-ok f (k .factor))
+
+pub record TariffRange (t : Tariff) : Type 0 where
+  pub rate-prices : t .«rate_price» .0 ≤ priceLimit
+  pub depth-prices : t .«depth_price» .0 ≤ priceLimit
+  pub fees : t .fee ≤ feeLimit
+  pub factor : FactorRange (t .factor)
+  pub rate-caps : t .«rate_cap» .0 ≤ rateLimit
+  pub depth-caps : t .«depth_cap» .0 ≤ depthLimit
+
+pub tariff-range : (t : Tariff) → tariffOk t ≡ true → TariffRange t
+tariff-range t h =
+    let k = and-six (leb (t .«rate_price» .0) priceLimit) (leb (t .«depth_price» .0) priceLimit) (leb (t .fee) feeLimit) (factorOk (t .factor)) (leb (t .«rate_cap» .0) rateLimit) (leb (t .«depth_cap» .0) depthLimit) h in
+    record {
+      rate-prices = leb-true _ _ (k .0);
+      depth-prices = leb-true _ _ (k .1);
+      fees = leb-true _ _ (k .2);
+      factor = factor-range (t .factor) (k .3);
+      rate-caps = leb-true _ _ (k .4);
+      depth-caps = leb-true _ _ (k .5);
+    }
+
+pub tariff-ok : (t : Tariff) → TariffRange t → tariffOk t ≡ true
+tariff-ok t k =
+    let prices = both-and (le-leb _ _ (k .rate-prices)) (le-leb _ _ (k .depth-prices)) in
+    let figures = both-and (both-and prices (le-leb _ _ (k .fees))) (factor-ok (t .factor) (k .factor)) in
+    both-and (both-and figures (le-leb _ _ (k .rate-caps))) (le-leb _ _ (k .depth-caps))
 
 pub record PeriodsRange (n : ℕ) : Type 0 where
   pub some : 1 ≤ n

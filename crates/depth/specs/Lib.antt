@@ -1,0 +1,7 @@
+-- The definitions that contracts cite, in reading order, and their laws.
+pub mod Depth
+pub mod Walk
+pub mod SearchLaws
+pub mod CeilingLaws
+pub mod WalkLaws
+pub mod DepthLaws

@@ -1,0 +1,6 @@
+// The smallest depth that carries a trace at a rate.
+mod depths;
+pub mod walk;
+
+pub use depths::DepthAnswer;
+pub use depths::depth_at;
