@@ -2,7 +2,8 @@
 // which show what each function requires.
 use terms::Bucket;
 use terms::Factor;
-ghost use Prim.Native.Nat.{_≤_, min};
+use terms::numbers::lesser;
+ghost use Prim.Native.Nat.{_≤_};
 ghost use mathlib.Core.Path.{_≡_};
 ghost use Rattle.terms.specs.Limits.{depthLimit};
 ghost use Rattle.terms.specs.RangeLaws.{BucketRange, FreshRange};
@@ -41,10 +42,4 @@ pub fn step(bucket: Bucket, held: u32, demand: u16) -> Period
         lost: left - next,
         held: next,
     }
-}
-
-fn lesser(a: u32, b: u32) -> u32
-    ensures { λ r. ⌜ r ≡ min a b ⌝ }
-{
-    if a < b { a } else { b }
 }

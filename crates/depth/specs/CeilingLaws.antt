@@ -3,7 +3,6 @@
 use Prim.Native.Nat.{ℕ, zero, suc, _+_, _-_, _*_, _/_, _≤_, _<_}
 use native.Mathlib.Omega.{arith}
 use native.Mathlib.Nat.{le-div-iff-mul-le, div-lt-iff-lt-mul, div-zero}
-use mathlib.Core.Path.{_≡_}
 use Rattle.bucket.specs.Step.{startOf}
 use Rattle.depth.specs.Walk.{ceiling}
 

@@ -1,21 +1,24 @@
 -- The depth answer is the smallest depth inside the cap that carries the trace, refusal 7 is given exactly when there is
 -- none, and one walk gives it.
 -- Assumes nothing.
-use Prim.Native.Nat.{ℕ, zero, suc, _+_, _*_, _≤_, _<_, max}
+use Prim.Native.Nat.{ℕ, _+_, _*_, _≤_, max}
 use native.Mathlib.Omega.{arith}
-use native.Mathlib.Nat.{max-le, le-max-left, le-max-right, le-trans, mul-le-mul-left}
+use native.Mathlib.Nat.{max-le, le-max-left, le-max-right}
 use mathlib.Core.Path.{_≡_, refl, sym, ap, subst, _∙_}
-use mathlib.Core.Bool.{Bool, true, false, false≢true, cond, _&&_}
+use mathlib.Core.Bool.{Bool, true, false, false≢true, cond}
 use mathlib.Core.List.{List, [], _∷_, _++_}
-use borrow.Author.Tests.{leb-true, leb-false, le-leb, lt-leb}
+use borrow.Author.Tests.{leb-true, le-leb}
 use lib.Dec.{leb}
+use lib.ListN.{length}
+use Rattle.terms.specs.declared.Tariff.{Tariff}
+use Rattle.terms.specs.Ranges.{periodsOk}
 use Rattle.terms.specs.Answer.{Answer, figures, refused}
 use Rattle.terms.specs.Bools.{and-both, both-and, not-true-false}
 use Rattle.bucket.specs.Step.{startOf}
 use Rattle.bucket.specs.Trace.{carries}
 use Rattle.bucket.specs.Laws.{start-le, carries-deeper}
 use Rattle.depth.specs.declared.walk.Walk.{Walk}
-use Rattle.depth.specs.Depth.{firstFrom, leastDepth}
+use Rattle.depth.specs.Depth.{leastDepth, tariffDepth, rateOk, depthOf}
 use Rattle.depth.specs.Walk.{pushed, walkOf, ceiling, capMeets, depthFrom}
 use Rattle.depth.specs.SearchLaws.{First, NonePasses, IsFirst, first-is, first-le, first-some, first-only}
 use Rattle.depth.specs.CeilingLaws.{start-holds, holds-start, start-ceiling, ceiling-start}
@@ -111,3 +114,8 @@ module _ (p q cap r : ℕ) (ds : List ℕ) (hp : p ≤ q) (hq : 1 ≤ q) where
 -- Of a trace with one more period at its end, one push more gives it.
 pub depth-more : (p q cap r : ℕ) (ds : List ℕ) (d : ℕ) → p ≤ q → 1 ≤ q → depthFrom p q cap (pushed r (walkOf r ds) d) ≡ leastDepth p q cap r (ds ++ (d ∷ []))
 depth-more p q cap r ds d hp hq = ap (depthFrom p q cap) (sym (walk-more r ds d)) ∙ depth-walk p q cap r (ds ++ (d ∷ [])) hp hq
+
+-- ---- The call: with a trace, a tariff and a rate in their ranges it is the smallest depth that decides.
+pub depth-in-range : (t : Tariff) (r : ℕ) (ds : List ℕ) → periodsOk (length ds) ≡ true → rateOk t r ≡ true → depthOf t r ds ≡ tariffDepth t r ds
+unfolding depthOf
+depth-in-range t r ds h k = rw (h, k)

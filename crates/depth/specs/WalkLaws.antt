@@ -2,9 +2,9 @@
 -- opening and the depth at least the stretch, and then it holds the smaller of y + gained − sum and depth − ending.
 -- By induction over the periods: each push keeps the lemma, and opening and stretch never fall.
 -- Assumes nothing.
-use Prim.Native.Nat.{ℕ, suc, _+_, _-_, _*_, _≤_, _<_, min, max}
+use Prim.Native.Nat.{ℕ, suc, _+_, _-_, _*_, _≤_, _<_, min}
 use native.Mathlib.Omega.{arith}
-use native.Mathlib.Nat.{le-antisymm, le-min, le-trans, le-max-left, le-max-right, max-le, min-le-left, min-le-right, min-eq-left, mul-le-mul-right, mul-add}
+use native.Mathlib.Nat.{le-antisymm, le-min, le-trans, le-max-left, le-max-right, max-le, min-le-left, min-le-right, min-eq-left}
 use native.Mathlib.Numerals.{add-one}
 use mathlib.Core.Path.{_≡_, refl, sym, ap, _∙_}
 use mathlib.Core.Bool.{true}

@@ -5,7 +5,8 @@ use terms::Depth;
 use terms::Factor;
 use terms::Rate;
 use terms::Refusal;
-ghost use Prim.Native.Nat.{_-_, _*_, _≤_, max};
+use terms::numbers::greater;
+ghost use Prim.Native.Nat.{_-_, _*_, _≤_};
 ghost use mathlib.Core.Path.{_≡_};
 ghost use Rattle.terms.specs.Limits.{rateLimit, depthLimit, partsLimit, traceLimit};
 ghost use Rattle.terms.specs.RangeLaws.{FactorRange};
@@ -95,10 +96,4 @@ fn rounded_up(x: u32, p: u32) -> u32
     ensures { λ r. ⌜ r ≡ ceiling x p ⌝ }
 {
     (x + (p - 1)) / p
-}
-
-fn greater(a: u32, b: u32) -> u32
-    ensures { λ r. ⌜ r ≡ max a b ⌝ }
-{
-    if b < a { a } else { b }
 }

@@ -2,8 +2,11 @@
 -- Assumes nothing.
 use Prim.Native.Nat.{ℕ}
 use native.Mathlib.Omega.{arith}
-use mathlib.Core.Path.{_≡_}
-use Rattle.terms.specs.Answer.{Answer, figures, refused}
+use mathlib.Core.Path.{_≡_, refl, sym}
+use mathlib.Core.Bool.{Bool, true, false}
+use borrow.Author.Tests.{eqb-false}
+use lib.Dec.{eqb}
+use Rattle.terms.specs.Answer.{Answer, figures, refused, weigh}
 
 pub figures-refused : {A : Type 0} {x : A} {n : ℕ} → figures x ≡ refused n → ⊥
 figures-refused e = let z : _≡_ {A = ℕ} 0 1 = cc in omega arith
@@ -13,3 +16,12 @@ same-figures e = cc
 
 pub same-refusal : {A : Type 0} {m n : ℕ} → _≡_ {A = Answer A} (refused m) (refused n) → m ≡ n
 same-refusal e = cc
+
+-- Figures mean that the rule weighed is kept; another refusal than its own means so too.
+pub weigh-figures : {A : Type 0} (ok : Bool) (n : ℕ) (rest : Answer A) {x : A} → weigh ok n rest ≡ figures x → (ok ≡ true) × (rest ≡ figures x)
+weigh-figures true n rest e = (refl, e)
+weigh-figures false n rest e = absurd (figures-refused (sym e))
+
+pub weigh-refused : {A : Type 0} (ok : Bool) (n m : ℕ) (rest : Answer A) → eqb n m ≡ false → weigh ok n rest ≡ refused m → (ok ≡ true) × (rest ≡ refused m)
+weigh-refused true n m rest h e = (refl, e)
+weigh-refused false n m rest h e = absurd (eqb-false n m h (same-refusal e))

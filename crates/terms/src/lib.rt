@@ -1,6 +1,7 @@
 // The nouns that every part of the planner speaks in: rates, depths, their prices, the starting
 // factor, the bucket, the tariff, and the numbered refusals.
 pub mod limits;
+pub mod numbers;
 mod ranges;
 mod refusal;
 

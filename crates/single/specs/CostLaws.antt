@@ -1,0 +1,34 @@
+-- Cost never falls as the rate or the depth grows, and it is bounded by the limits of the figures.
+-- Assumes nothing.
+use Prim.Native.Nat.{ℕ, _+_, _*_, _≤_}
+use native.Mathlib.Omega.{arith}
+use native.Mathlib.Nat.{mul-le-mul, mul-le-mul-left, mul-le-mul-right, add-le-add}
+use Rattle.terms.specs.declared.Bucket.{Bucket}
+use Rattle.terms.specs.declared.Tariff.{Tariff}
+use Rattle.terms.specs.Limits.{rateLimit, depthLimit, priceLimit, feeLimit}
+use Rattle.terms.specs.RangeLaws.{BucketRange, TariffRange}
+use Rattle.single.specs.Cost.{costOf}
+
+pub cost-mono : (t : Tariff) (n : ℕ) (b c : Bucket) → b .rate .0 ≤ c .rate .0 → b .depth .0 ≤ c .depth .0 → costOf t n b ≤ costOf t n c
+unfolding costOf
+cost-mono t n b c h k =
+    let l = add-le-add (mul-le-mul-left (t .«rate_price» .0) h) (mul-le-mul-left (t .«depth_price» .0) k) in
+    omega (arith, mul-le-mul-right n l)
+
+-- The most that a bucket costs in a period, without the fee.
+abbrev pub periodLimit : ℕ
+periodLimit = priceLimit * rateLimit + priceLimit * depthLimit
+
+module _ {t : Tariff} {b : Bucket} (h : TariffRange t) (k : BucketRange b) where
+  pub rate-part : t .«rate_price» .0 * b .rate .0 ≤ priceLimit * rateLimit
+  rate-part = mul-le-mul (h .rate-prices) (k .rates)
+
+  pub depth-part : t .«depth_price» .0 * b .depth .0 ≤ priceLimit * depthLimit
+  depth-part = mul-le-mul (h .depth-prices) (k .depths)
+
+  pub periods-part : (n : ℕ) → (t .«rate_price» .0 * b .rate .0 + t .«depth_price» .0 * b .depth .0) * n ≤ periodLimit * n
+  periods-part n = mul-le-mul-right n (add-le-add rate-part depth-part)
+
+  pub cost-le : (n : ℕ) → costOf t n b ≤ periodLimit * n + feeLimit
+  unfolding costOf
+  cost-le n = add-le-add (periods-part n) (h .fees)

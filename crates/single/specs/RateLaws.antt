@@ -1,0 +1,86 @@
+-- Rates that need not be weighed: those above the greatest demand, since at that demand depth 0 carries and a larger bucket is
+-- never preferred; and those that cost more even at depth 0 than a bucket that is found.
+-- Assumes nothing.
+use Prim.Native.Nat.{ℕ, zero, suc, _+_, _-_, _≤_, _<_, min}
+use native.Mathlib.Omega.{arith}
+use native.Mathlib.Nat.{le-trans, lt-of-lt-of-le, le-max-left, le-max-right, min-eq-left, zero-add, suc-add}
+use mathlib.Core.Path.{_≡_, refl, sym, ap, _∙_}
+use mathlib.Core.Bool.{Bool, true, false, false≢true}
+use mathlib.Core.List.{List, [], _∷_}
+use borrow.Author.Tests.{eq-eqb, leb-true, leb-false, ltb-true}
+use lib.Dec.{leb}
+use lib.ListN.{length}
+use Rattle.terms.specs.declared.Tariff.{Tariff}
+use Rattle.terms.specs.Answer.{Answer, figures, refused}
+use Rattle.terms.specs.Bools.{both-and}
+use Rattle.bucket.specs.Step.{over, held}
+use Rattle.bucket.specs.Trace.{carriesFrom}
+use Rattle.depth.specs.Depth.{tariffDepth}
+use Rattle.depth.specs.DepthLaws.{depth-within, depth-carries}
+use Rattle.single.specs.declared.costs.Priced.{Priced}
+use Rattle.single.specs.Cost.{pricedAt}
+use Rattle.single.specs.CostLaws.{cost-mono}
+use Rattle.single.specs.PreferenceLaws.{not-preferred-trans, dearer-not-preferred, larger-not-preferred}
+use Rattle.single.specs.Rates.{candidates, greatest, weighed}
+use Rattle.single.specs.Single.{bucketOf, offeredAt, better, bestOf, cheapestOf, dearer}
+use Rattle.single.specs.SingleLaws.{At, NoneBefore, IsBest, best-is}
+
+-- A rate of at least every demand carries with any depth and any tokens.
+pub greatest-carries : (r B y : ℕ) (ds : List ℕ) → greatest ds ≤ r → carriesFrom r B y ds ≡ true
+unfolding greatest carriesFrom
+greatest-carries r B y [] h = refl
+greatest-carries r B y (d ∷ ds) h =
+    let l : d ≤ r = le-trans (le-max-left d (greatest ds)) h in
+    both-and (eq-eqb (over r y d) 0 (omega arith)) (greatest-carries r B (held r B y d) ds (le-trans (le-max-right d (greatest ds)) h))
+
+module _ (t : Tariff) (ds : List ℕ) where
+  abbrev NoneFrom : Priced → ℕ → Type 0
+  NoneFrom x k = (r : ℕ) → k ≤ r → NoneBefore t ds x r
+
+  passed-by : (r : ℕ) (x : Priced) → NoneBefore t ds x r → (o : Answer ℕ) → tariffDepth t r ds ≡ o → better (figures x) (offeredAt t (length ds) r o) ≡ figures x
+  passed-by r x h (refused n) e = refl
+  passed-by r x h (figures B) e = rw (h B (record { inside = depth-within _ _ _ _ _ e; carried = depth-carries _ _ _ _ _ e }))
+
+  -- Where no rate from k on has a bucket that is preferred, weighing them changes nothing.
+  weighed-on : (k : ℕ) (x : Priced) → bestOf t ds k ≡ figures x → NoneFrom x k → (m : ℕ) → bestOf t ds (m + k) ≡ figures x
+  unfolding bestOf
+  weighed-on k x e h zero = ap (bestOf t ds) (zero-add k) ∙ e
+  weighed-on k x e h (suc m) =
+      ap (bestOf t ds) (suc-add m k)
+      ∙ ap (λ (a : Answer Priced). better a (offeredAt t (length ds) (m + k) (tariffDepth t (m + k) ds))) (weighed-on k x e h m)
+      ∙ passed-by (m + k) x (h (m + k) (omega arith)) (tariffDepth t (m + k) ds) refl
+
+  weighed-all : (k : ℕ) (x : Priced) → bestOf t ds k ≡ figures x → NoneFrom x k → k ≤ candidates t → bestOf t ds k ≡ cheapestOf t ds
+  weighed-all k x e h l =
+      let m : candidates t - k + k ≡ candidates t = omega arith in
+      e ∙ sym (weighed-on k x e h (candidates t - k)) ∙ ap (bestOf t ds) m
+
+  -- Once the rates left cost more than what is found, even at depth 0.
+  pub dearer-enough : (k : ℕ) (a : Answer Priced) → a ≡ bestOf t ds (k + 1) → dearer (pricedAt t (length ds) (bucketOf k 0)) a ≡ true → k + 1 ≤ candidates t → a ≡ cheapestOf t ds
+  dearer-enough k (refused n) e h l = absurd (false≢true h)
+  dearer-enough k (figures x) e h l =
+      e ∙ weighed-all (k + 1) x (sym e)
+      (λ r m B s. dearer-not-preferred x _ (lt-of-lt-of-le (ltb-true _ _ h) (cost-mono t (length ds) (bucketOf k 0) (bucketOf r B) (omega arith) (omega arith))))
+      l
+
+  -- At the greatest demand depth 0 carries.
+  zero-depth : At t ds (greatest ds) 0
+  zero-depth = record { inside = omega arith; carried = greatest-carries (greatest ds) 0 _ ds (omega arith) }
+
+  above-none : (a : Answer Priced) → bestOf t ds (greatest ds + 1) ≡ a → IsBest t ds (greatest ds + 1) a → greatest ds + 1 ≤ candidates t → bestOf t ds (greatest ds + 1) ≡ cheapestOf t ds
+  above-none (refused n) e k l = absurd (k .1 (greatest ds) (omega arith) 0 zero-depth)
+  above-none (figures x) e k l =
+      weighed-all (greatest ds + 1) x e
+      (λ r m B s. not-preferred-trans x _ _ (k .none-before (greatest ds) (omega arith) 0 zero-depth) (larger-not-preferred t (length ds) (bucketOf (greatest ds) 0) (bucketOf r B) (omega arith) (omega arith)))
+      l
+
+  -- No rate above the greatest demand need be weighed.
+  pub weighed-enough : bestOf t ds (weighed t ds) ≡ cheapestOf t ds
+  weighed-enough = go (leb (t .«rate_cap» .0) (greatest ds)) refl
+    where
+      go : (b : Bool) → leb (t .«rate_cap» .0) (greatest ds) ≡ b → bestOf t ds (weighed t ds) ≡ cheapestOf t ds
+      go true h = rw (min-eq-left (leb-true (t .«rate_cap» .0) (greatest ds) h))
+      go false h =
+          let l : greatest ds < t .«rate_cap» .0 = leb-false _ _ h in
+          let m : min (t .«rate_cap» .0) (greatest ds) ≡ greatest ds = omega arith in
+          rw m (above-none (bestOf t ds (greatest ds + 1)) refl (best-is t ds (greatest ds + 1)) (omega arith))

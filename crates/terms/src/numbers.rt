@@ -1,0 +1,15 @@
+// The smaller and the greater of two numbers, for the crates above.
+ghost use Prim.Native.Nat.{min, max};
+ghost use mathlib.Core.Path.{_≡_};
+
+pub fn lesser(a: u32, b: u32) -> u32
+    ensures { λ r. ⌜ r ≡ min a b ⌝ }
+{
+    if a < b { a } else { b }
+}
+
+pub fn greater(a: u32, b: u32) -> u32
+    ensures { λ r. ⌜ r ≡ max a b ⌝ }
+{
+    if b < a { a } else { b }
+}
