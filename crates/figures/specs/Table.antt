@@ -5,23 +5,66 @@ use mathlib.Core.Path.{_≡_, refl}
 use mathlib.Core.Bool.{true}
 use mathlib.Core.List.{List, [], _∷_}
 use lib.IntN.{ℤ, pos, negsuc}
-use Rattle.terms.specs.declared.Bucket.{Bucket}
 use Rattle.terms.specs.declared.Factor.{Factor}
-use Rattle.terms.specs.Answer.{figures}
+use Rattle.terms.specs.declared.Tariff.{Tariff}
+use Rattle.terms.specs.Answer.{figures, refused}
 use Rattle.bucket.specs.declared.trials.TrialFigures.{TrialFigures}
 use Rattle.bucket.specs.declared.meters.Meter.{Meter}
 use Rattle.bucket.specs.Step.{startOf}
-use Rattle.bucket.specs.Trace.{sumOf, gaps, leastOf, spareFrom}
+use Rattle.bucket.specs.Trace.{sumOf, carriesFrom, gaps, leastOf, spareFrom}
 use Rattle.bucket.specs.Trial.{trialFigures, trialOf}
 use Rattle.bucket.specs.Meter.{meterOk, openOf, offerOf, afterOffers}
+use Rattle.depth.specs.Depth.{firstFrom, depthOf}
+use Rattle.single.specs.declared.costs.Priced.{Priced}
+use Rattle.single.specs.Cost.{costOf}
+use Rattle.single.specs.Preference.{smaller, preferred}
+use Rattle.single.specs.Single.{bucketOf, offered, bestOf, singleOf}
 use Rattle.figures.specs.Rows.{Row, rowOf, allRight, Hold, all-hold}
 
 -- the factor of the printed case
 half : Factor
 half = record { p = 1; q = 2 }
 
-bucketOf : ℕ → ℕ → Bucket
-bucketOf r B = record { rate = record { 0 = r }; depth = record { 0 = B } }
+-- the printed case's prices 2 and 1, F = 4, factor 1/2 and rate cap 4,095, with a depth cap
+capped : ℕ → Tariff
+capped B =
+    record {
+      «rate_price» = record { 0 = 2 };
+      «depth_price» = record { 0 = 1 };
+      fee = 4;
+      factor = half;
+      «rate_cap» = record { 0 = 4095 };
+      «depth_cap» = record { 0 = B };
+    }
+
+-- the printed case's tariff
+printed : Tariff
+printed = capped 1000000
+
+-- row D's: factor 2/3, prices 7 and 5, F = 0
+uneven : Tariff
+uneven =
+    record {
+      «rate_price» = record { 0 = 7 };
+      «depth_price» = record { 0 = 5 };
+      fee = 0;
+      factor = record { p = 2; q = 3 };
+      «rate_cap» = record { 0 = 4095 };
+      «depth_cap» = record { 0 = 1000000 };
+    }
+
+case : List ℕ
+case = 4 ∷ 8 ∷ 2 ∷ []
+
+depthRow : ℕ → List ℤ
+depthRow B = pos B ∷ []
+
+-- rate, depth and cost
+singleRow : Priced → List ℤ
+singleRow x = pos (x .bucket .rate .0) ∷ pos (x .bucket .depth .0) ∷ pos (x .cost) ∷ []
+
+costRow : Priced → List ℤ
+costRow x = pos (x .cost) ∷ []
 
 trialRow : TrialFigures → List ℤ
 trialRow t = t .spare ∷ pos (t .over) ∷ []
@@ -32,20 +75,37 @@ meterRow ds m = let n = afterOffers m ds in pos (n .sent) ∷ pos (n .over) ∷ 
 
 pub table : List Row
 table =
+    -- A: 4,8,2 at rates 4, 5, 6: depths 8, 4, 2
+    record { given = rowOf depthRow (depthOf printed 4 case); paper = figures (pos 8 ∷ []) }
+    ∷ record { given = rowOf depthRow (depthOf printed 5 case); paper = figures (pos 4 ∷ []) }
+    ∷ record { given = rowOf depthRow (depthOf printed 6 case); paper = figures (pos 2 ∷ []) }
+    -- B: 4,8,2 at rate 5: depth cap 4 gives 4, cap 3 gives refusal 7
+    ∷ record { given = rowOf depthRow (depthOf (capped 4) 5 case); paper = figures (pos 4 ∷ []) }
+    ∷ record { given = rowOf depthRow (depthOf (capped 3) 5 case); paper = refused 7 }
+    -- C: single for 4,8,2: (5, 4), cost 46; rate 6 with depth 2 costs the same
+    ∷ record { given = rowOf singleRow (singleOf printed case); paper = figures (pos 5 ∷ pos 4 ∷ pos 46 ∷ []) }
+    ∷ record { given = rowOf singleRow (offered printed case 6); paper = figures (pos 6 ∷ pos 2 ∷ pos 46 ∷ []) }
+    -- D: trace 3: (3, 0), cost 21; rates 0, 1, 2 cost 25, 22, 24
+    ∷ record { given = rowOf singleRow (singleOf uneven (3 ∷ [])); paper = figures (pos 3 ∷ pos 0 ∷ pos 21 ∷ []) }
+    ∷ record { given = rowOf costRow (offered uneven (3 ∷ []) 0); paper = figures (pos 25 ∷ []) }
+    ∷ record { given = rowOf costRow (offered uneven (3 ∷ []) 1); paper = figures (pos 22 ∷ []) }
+    ∷ record { given = rowOf costRow (offered uneven (3 ∷ []) 2); paper = figures (pos 24 ∷ []) }
+    -- I: trace 0: (0, 0), cost 4
+    ∷ record { given = rowOf singleRow (singleOf printed (0 ∷ [])); paper = figures (pos 0 ∷ pos 0 ∷ pos 4 ∷ []) }
     -- J: meter rate 5, depth 4, offers 4,8,2,9: sent 22, over 1, lost 0, tokens 0
-    record {
+    ∷ record {
       given = rowOf (meterRow (4 ∷ 8 ∷ 2 ∷ 9 ∷ [])) (openOf (bucketOf 5 4) half);
       paper = figures (pos 22 ∷ pos 1 ∷ pos 0 ∷ pos 0 ∷ []);
     }
     -- K: trial of (5, 3) on 4,8,2: spare −1, over 1
     ∷ record {
-      given = rowOf trialRow (trialOf (bucketOf 5 3) half (4 ∷ 8 ∷ 2 ∷ []));
+      given = rowOf trialRow (trialOf (bucketOf 5 3) half case);
       paper = figures (negsuc 0 ∷ pos 1 ∷ []);
     }
     ∷ []
 
 table-right : allRight table ≡ true
-unfolding table half bucketOf trialRow meterRow allRight startOf sumOf gaps leastOf spareFrom trialFigures meterOk offerOf afterOffers
+unfolding table half printed capped uneven case depthRow singleRow costRow trialRow meterRow allRight startOf sumOf carriesFrom gaps leastOf spareFrom trialFigures meterOk offerOf afterOffers firstFrom depthOf costOf smaller preferred bestOf singleOf
 table-right = refl
 
 pub figures-hold : Hold table

@@ -1,7 +1,9 @@
 // What the test programs print, a field at a time. For them alone: no contract can say what a
 // program writes, so each program's output is held to a stored one.
 use bucket::TrialAnswer;
+use depth::DepthAnswer;
 use libc::STDOUT_FILENO;
+use single::SingleAnswer;
 use terms::Refusal;
 ghost use mathlib.Core.Path.{_≡_};
 ghost use lib.IntN.{natAbs};
@@ -54,6 +56,34 @@ pub fn trial(a: TrialAnswer) {
             number(t.over as u64);
         }
         TrialAnswer::Refused(x) => refusal(x),
+    }
+    end_line();
+}
+
+// The depth, or the refusal.
+pub fn depth(a: DepthAnswer) {
+    match a {
+        DepthAnswer::Found(b) => {
+            words(b" depth");
+            number(b.0 as u64);
+        }
+        DepthAnswer::Refused(x) => refusal(x),
+    }
+    end_line();
+}
+
+// The bucket and its cost, or the refusal.
+pub fn single(a: SingleAnswer) {
+    match a {
+        SingleAnswer::Found(x) => {
+            words(b" rate");
+            number(x.bucket.rate.0 as u64);
+            words(b" depth");
+            number(x.bucket.depth.0 as u64);
+            words(b" cost");
+            number(x.cost);
+        }
+        SingleAnswer::Refused(x) => refusal(x),
     }
     end_line();
 }
