@@ -12,7 +12,8 @@ use lib.Dec.{leb}
 use lib.ListN.{length}
 use Rattle.terms.specs.declared.Tariff.{Tariff}
 use Rattle.terms.specs.Ranges.{periodsOk}
-use Rattle.terms.specs.Answer.{Answer, figures, refused}
+use Rattle.terms.specs.Answer.{Answer, figures, refused, weigh}
+use Rattle.terms.specs.AnswerLaws.{weigh-figures, weigh-refused}
 use Rattle.terms.specs.Bools.{and-both, both-and, not-true-false}
 use Rattle.bucket.specs.Step.{startOf}
 use Rattle.bucket.specs.Trace.{carries}
@@ -115,7 +116,23 @@ module _ (p q cap r : ℕ) (ds : List ℕ) (hp : p ≤ q) (hq : 1 ≤ q) where
 pub depth-more : (p q cap r : ℕ) (ds : List ℕ) (d : ℕ) → p ≤ q → 1 ≤ q → depthFrom p q cap (pushed r (walkOf r ds) d) ≡ leastDepth p q cap r (ds ++ (d ∷ []))
 depth-more p q cap r ds d hp hq = ap (depthFrom p q cap) (sym (walk-more r ds d)) ∙ depth-walk p q cap r (ds ++ (d ∷ [])) hp hq
 
--- ---- The call: with a trace, a tariff and a rate in their ranges it is the smallest depth that decides.
-pub depth-in-range : (t : Tariff) (r : ℕ) (ds : List ℕ) → periodsOk (length ds) ≡ true → rateOk t r ≡ true → depthOf t r ds ≡ tariffDepth t r ds
-unfolding depthOf
-depth-in-range t r ds h k = rw (h, k)
+-- ---- The call
+
+module _ (t : Tariff) (r : ℕ) (ds : List ℕ) where
+  -- With a trace, a tariff and a rate in their ranges the smallest depth decides.
+  pub depth-in-range : periodsOk (length ds) ≡ true → rateOk t r ≡ true → depthOf t r ds ≡ tariffDepth t r ds
+  unfolding depthOf
+  depth-in-range h k = rw (h, k)
+
+  -- Figures are the smallest depth, and refusal 7 says that there is none.
+  pub depth-found : {B : ℕ} → depthOf t r ds ≡ figures B → SmallestDepth (t .factor .p) (t .factor .q) (t .«depth_cap» .0) r ds B
+  unfolding depthOf
+  depth-found e =
+      let h = weigh-figures (periodsOk (length ds)) 3 (weigh (rateOk t r) 5 (tariffDepth t r ds)) e .1 in
+      depth-smallest _ _ _ _ _ (weigh-figures (rateOk t r) 5 (tariffDepth t r ds) h .1)
+
+  pub depth-not-found : depthOf t r ds ≡ refused 7 → NoDepth (t .factor .p) (t .factor .q) (t .«depth_cap» .0) r ds
+  unfolding depthOf
+  depth-not-found e =
+      let h = weigh-refused (periodsOk (length ds)) 3 7 (weigh (rateOk t r) 5 (tariffDepth t r ds)) refl e .1 in
+      depth-none _ _ _ _ _ (weigh-refused (rateOk t r) 5 7 (tariffDepth t r ds) refl h .1) .1

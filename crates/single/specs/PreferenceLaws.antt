@@ -3,7 +3,7 @@
 use Prim.Native.Nat.{ℕ, _≤_, _<_}
 use native.Mathlib.Omega.{arith}
 use native.Mathlib.Nat.{le-antisymm, le-of-eq, le-of-lt, le-trans}
-use mathlib.Core.Path.{_≡_, refl, sym}
+use mathlib.Core.Path.{_≡_, refl, sym, ap, _∙_}
 use mathlib.Core.Bool.{Bool, true, false, true≢false, _&&_, _||_}
 use borrow.Author.Tests.{ltb-true, ltb-false, le-ltb, eqb-true, eq-eqb}
 use lib.Dec.{ltb, eqb}
@@ -46,6 +46,13 @@ smaller-trans a b c s t u h k f =
     let j = smaller-not c b t k in
     not-smaller c a u (le-trans (i .0) (j .0)) (λ e. f (i .1 (le-antisymm (le-trans (j .0) (le-of-eq e)) (i .0))) (j .1 (le-antisymm (le-trans (le-of-eq e) (i .0)) (j .0))))
 
+smaller-same : (a b : ℕ) (s t : Bool) → smaller a b s ≡ false → smaller b a t ≡ false → (a ≡ b) × (s ≡ false) × (t ≡ false)
+smaller-same a b s t h k =
+    let i = smaller-not a b s h in
+    let j = smaller-not b a t k in
+    let e = le-antisymm (j .0) (i .0) in
+    (e, i .1 e, j .1 (sym e))
+
 smaller-asym : (a b : ℕ) (s t : Bool) → smaller a b s ≡ true → (s ≡ true → t ≡ false) → smaller b a t ≡ false
 smaller-asym a b s t h f = let i = smaller-so a b s h in not-smaller b a t (i .0) (λ e. f (i .1 (sym e)))
 
@@ -58,6 +65,20 @@ not-preferred-trans x y z h k =
 pub preferred-asym : (x y : Priced) → preferred x y ≡ true → preferred y x ≡ false
 unfolding preferred
 preferred-asym x y h = smaller-asym _ _ _ _ h (λ h. smaller-asym _ _ _ _ h (λ h. smaller-asym _ _ _ _ h (λ h. refl)))
+
+abbrev made : ℕ → ℕ → ℕ → Priced
+made c r d = record { bucket = record { rate = record { 0 = r }; depth = record { 0 = d } }; cost = c }
+
+-- Of two different buckets one is preferred.
+pub preferred-total : (x y : Priced) → preferred x y ≡ false → preferred y x ≡ false → x ≡ y
+unfolding preferred
+preferred-total x y h k =
+    let c = smaller-same _ _ _ _ h k in
+    let r = smaller-same _ _ _ _ (c .1) (c .2) in
+    let d = smaller-same _ _ _ _ (r .1) (r .2) in
+    ap (λ (n : ℕ). made n (x .bucket .rate .0) (x .bucket .depth .0)) (c .0)
+    ∙ ap (λ (n : ℕ). made (y .cost) n (x .bucket .depth .0)) (r .0)
+    ∙ ap (made (y .cost) (y .bucket .rate .0)) (d .0)
 
 -- What is not preferred costs at least as much.
 pub not-preferred-cost : (x y : Priced) → preferred y x ≡ false → x .cost ≤ y .cost

@@ -23,7 +23,7 @@ use Rattle.single.specs.declared.costs.Priced.{Priced}
 use Rattle.single.specs.Cost.{costOf, pricedAt}
 use Rattle.single.specs.Preference.{preferred}
 use Rattle.single.specs.Rates.{candidates}
-use Rattle.single.specs.PreferenceLaws.{not-preferred-trans, preferred-asym, not-preferred-cost, larger-not-preferred}
+use Rattle.single.specs.PreferenceLaws.{not-preferred-trans, preferred-asym, not-preferred-cost, preferred-total, larger-not-preferred}
 use Rattle.single.specs.Single.{bucketOf, Serves, offeredAt, better, bestOf, cheapestOf, singleOf}
 
 module _ (t : Tariff) (ds : List ℕ) where
@@ -127,6 +127,18 @@ module _ (t : Tariff) (ds : List ℕ) where
   -- No other bucket that carries the trace costs less.
   pub cheapest-least : {x : Priced} → Cheapest t ds x → (b : Bucket) → Serves t ds b → x .cost ≤ costOf t (length ds) b
   cheapest-least k b s = not-preferred-cost _ _ (k .none-preferred b s)
+
+  -- There is one answer of that kind only.
+  pub single-only : (a c : Answer Priced) → IsSingle t ds a → IsSingle t ds c → a ≡ c
+  single-only (figures x) (figures y) k l = ap figures (preferred-total x y (not-before x y k l) (not-before y x l k))
+    where
+      not-before : (x y : Priced) → Cheapest t ds x → Cheapest t ds y → preferred x y ≡ false
+      not-before x y k l =
+          let e : x ≡ pricedAt t (length ds) (x .bucket) = ap (λ (c : ℕ). record { bucket = x .bucket; cost = c }) (k .paid) in
+          ap (λ (z : Priced). preferred z y) e ∙ l .none-preferred (x .bucket) (k .serves)
+  single-only (figures x) (refused n) k l = absurd (l .1 (x .bucket) (k .serves))
+  single-only (refused m) (figures y) k l = absurd (k .1 (y .bucket) (l .serves))
+  single-only (refused m) (refused n) k l = ap refused (k .0 ∙ sym (l .0))
 
   -- ---- The call
 
