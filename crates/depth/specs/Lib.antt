@@ -4,4 +4,5 @@ pub mod Walk
 pub mod SearchLaws
 pub mod CeilingLaws
 pub mod WalkLaws
+pub mod WalkRanges
 pub mod DepthLaws

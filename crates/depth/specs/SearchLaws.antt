@@ -5,11 +5,12 @@ use native.Mathlib.Omega.{arith}
 use native.Mathlib.Nat.{le-antisymm}
 use native.Mathlib.Numerals.{add-one}
 use mathlib.Core.Path.{_≡_, refl, sym, ap, _∙_}
-use mathlib.Core.Bool.{Bool, true, false, false≢true, cond}
+use mathlib.Core.Bool.{Bool, true, false, cond}
 use borrow.Author.Count.{below-more}
 use borrow.Author.Tests.{leb-true, leb-false}
 use lib.Dec.{leb}
 use Rattle.terms.specs.Answer.{Answer, figures, refused}
+use Rattle.terms.specs.Bools.{true-false}
 use Rattle.depth.specs.Depth.{firstFrom}
 
 -- b is the first number that passes, and at most the cap.
@@ -39,26 +40,23 @@ module _ (test : ℕ → Bool) (cap : ℕ) where
   pub first-is : IsFirst test cap (firstFrom test (suc cap) 0)
   first-is = from-is (suc cap) 0 (omega arith) (λ c l. absurd (omega arith))
 
-  both : {b : Bool} → b ≡ true → b ≡ false → ⊥
-  both h k = false≢true (sym k ∙ h)
-
   -- No number that passes is below the first.
   pub first-le : (b c : ℕ) → First test cap b → test c ≡ true → b ≤ c
   first-le b c k h = go (leb b c) refl
     where
       go : (t : Bool) → leb b c ≡ t → b ≤ c
       go true e = leb-true b c e
-      go false e = absurd (both h (k .smaller c (leb-false b c e)))
+      go false e = absurd (true-false h (k .smaller c (leb-false b c e)))
 
   pub first-some : (c : ℕ) → c ≤ cap → test c ≡ true → (b : ℕ) × (firstFrom test (suc cap) 0 ≡ figures b)
   first-some c l h = go (firstFrom test (suc cap) 0) refl first-is
     where
       go : (x : Answer ℕ) → firstFrom test (suc cap) 0 ≡ x → IsFirst test cap x → (b : ℕ) × (firstFrom test (suc cap) 0 ≡ figures b)
       go (figures b) e k = (b, e)
-      go (refused n) e k = absurd (both h (k .1 c l))
+      go (refused n) e k = absurd (true-false h (k .1 c l))
 
   pub first-only : (x y : Answer ℕ) → IsFirst test cap x → IsFirst test cap y → x ≡ y
   first-only (figures b) (figures c) k l = ap figures (le-antisymm (first-le b c k (l .passes)) (first-le c b l (k .passes)))
-  first-only (figures b) (refused n) k l = absurd (both (k .passes) (l .1 b (k .within)))
-  first-only (refused m) (figures c) k l = absurd (both (l .passes) (k .1 c (l .within)))
+  first-only (figures b) (refused n) k l = absurd (true-false (k .passes) (l .1 b (k .within)))
+  first-only (refused m) (figures c) k l = absurd (true-false (l .passes) (k .1 c (l .within)))
   first-only (refused m) (refused n) k l = ap refused (k .0 ∙ sym (l .0))

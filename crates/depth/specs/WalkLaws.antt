@@ -2,21 +2,20 @@
 -- opening and the depth at least the stretch, and then it holds the smaller of y + gained − sum and depth − ending.
 -- By induction over the periods: each push keeps the lemma, and opening and stretch never fall.
 -- Assumes nothing.
-use Prim.Native.Nat.{ℕ, suc, _+_, _-_, _*_, _≤_, _<_, min}
+use Prim.Native.Nat.{ℕ, _+_, _-_, _≤_, _<_, min}
 use native.Mathlib.Omega.{arith}
 use native.Mathlib.Nat.{le-antisymm, le-min, le-trans, le-max-left, le-max-right, max-le, min-le-left, min-le-right, min-eq-left}
 use native.Mathlib.Numerals.{add-one}
-use mathlib.Core.Path.{_≡_, refl, sym, ap, _∙_}
+use mathlib.Core.Path.{_≡_, refl, sym, ap, subst, _∙_}
 use mathlib.Core.Bool.{true}
 use mathlib.Core.List.{List, [], _∷_, _++_, foldl, foldl-append}
 use borrow.Author.Tests.{eqb-true, eq-eqb}
 use lib.Dec.{eqb}
 use lib.ListN.{length, getD, take}
 use lib.Seq.{take-suc}
-use Rattle.terms.specs.Limits.{demandLimit, rateLimit}
 use Rattle.terms.specs.Bools.{and-both, both-and}
 use Rattle.bucket.specs.Step.{over, held}
-use Rattle.bucket.specs.Trace.{Demands, carriesFrom, heldAfter}
+use Rattle.bucket.specs.Trace.{carriesFrom, heldAfter}
 use Rattle.depth.specs.declared.walk.Walk.{Walk}
 use Rattle.depth.specs.Walk.{started, pushed, walkOf}
 
@@ -143,41 +142,14 @@ pub walk-more : (r : ℕ) (ds : List ℕ) (d : ℕ) → walkOf r (ds ++ (d ∷ [
 unfolding walkOf
 walk-more r ds d = foldl-append (pushed r) started ds (d ∷ [])
 
+-- So the lemma for such a trace is the one for the pushed walk.
+module _ (r : ℕ) {B y : ℕ} (h : y ≤ B) (ds : List ℕ) (d : ℕ) where
+  pub carried-enough-more : carriesFrom r B y (ds ++ (d ∷ [])) ≡ true → Enough B y (pushed r (walkOf r ds) d)
+  carried-enough-more e = subst (Enough B y) (walk-more r ds d) (carried-enough r h (ds ++ (d ∷ [])) e)
+
+  pub enough-carried-more : Enough B y (pushed r (walkOf r ds) d) → carriesFrom r B y (ds ++ (d ∷ [])) ≡ true
+  enough-carried-more n = enough-carried r h (ds ++ (d ∷ [])) (subst (Enough B y) (sym (walk-more r ds d)) n)
+
 -- The walk of the first i + 1 periods.
 pub walk-next : (r : ℕ) (ds : List ℕ) (i : ℕ) → i < length ds → walkOf r (take (i + 1) ds) ≡ pushed r (walkOf r (take i ds)) (getD ds i 0)
 walk-next r ds i l = ap (walkOf r) (rw (add-one i) (take-suc ds i 0 l)) ∙ walk-more r (take i ds) (getD ds i 0)
-
--- ---- Ranges
-
--- After n periods.
-pub record WalkRange (n : ℕ) (w : Walk) : Type 0 where
-  pub sums : w .sum ≤ demandLimit * n
-  pub gains : w .gained ≤ rateLimit * n
-  pub openings : w .opening ≤ w .sum
-  pub endings : w .ending ≤ w .sum
-  pub stretches : w .stretch ≤ w .sum
-
-pub range-started : WalkRange 0 started
-range-started = omega arith
-
-pub range-pushed : (r d : ℕ) {n : ℕ} {w : Walk} → WalkRange n w → r ≤ rateLimit → d ≤ demandLimit → WalkRange (n + 1) (pushed r w d)
-unfolding pushed
-range-pushed r d k hr hd =
-    record {
-      sums = omega (arith, k .sums);
-      gains = omega (arith, k .gains);
-      openings = max-le (omega (arith, k .openings)) (omega arith);
-      endings = omega (arith, k .endings);
-      stretches = max-le (omega (arith, k .stretches)) (omega (arith, k .endings));
-    }
-
-pub range-more : {m n : ℕ} {w : Walk} → m ≤ n → WalkRange m w → WalkRange n w
-range-more h k = omega (arith, k .sums, k .gains, k .openings, k .endings, k .stretches)
-
-range-on : (r : ℕ) {n : ℕ} {w : Walk} (ds : List ℕ) → r ≤ rateLimit → Demands ds → WalkRange n w → WalkRange (n + length ds) (foldl (pushed r) w ds)
-range-on r [] hr h k = range-more (omega arith) k
-range-on r (d ∷ ds) hr h k = range-more (omega arith) (range-on r ds hr (record { each = λ i. h .each (suc i) }) (range-pushed r d k hr (h .each 0)))
-
-pub walk-range : (r : ℕ) (ds : List ℕ) → r ≤ rateLimit → Demands ds → WalkRange (length ds) (walkOf r ds)
-unfolding walkOf
-walk-range r ds hr h = range-more (omega arith) (range-on r ds hr h range-started)

@@ -12,7 +12,7 @@ ghost use Rattle.terms.specs.Limits.{rateLimit, depthLimit, partsLimit, traceLi
 ghost use Rattle.terms.specs.RangeLaws.{FactorRange};
 ghost use Rattle.depth.specs.Depth.{depthSays};
 ghost use Rattle.depth.specs.Walk.{started, pushed, ceiling, depthFrom};
-ghost use Rattle.depth.specs.WalkLaws.{WalkRange};
+ghost use Rattle.depth.specs.WalkRanges.{WalkRange};
 
 // What the periods so far ask for, in tokens.
 pub struct Walk {

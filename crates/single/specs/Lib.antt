@@ -5,5 +5,6 @@ pub mod Rates
 pub mod Single
 pub mod CostLaws
 pub mod PreferenceLaws
+pub mod BestLaws
 pub mod SingleLaws
 pub mod RateLaws

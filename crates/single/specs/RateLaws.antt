@@ -16,14 +16,13 @@ use Rattle.terms.specs.Bools.{both-and}
 use Rattle.bucket.specs.Step.{over, held}
 use Rattle.bucket.specs.Trace.{carriesFrom}
 use Rattle.depth.specs.Depth.{tariffDepth}
-use Rattle.depth.specs.DepthLaws.{depth-within, depth-carries}
 use Rattle.single.specs.declared.costs.Priced.{Priced}
 use Rattle.single.specs.Cost.{pricedAt}
 use Rattle.single.specs.CostLaws.{cost-mono}
 use Rattle.single.specs.PreferenceLaws.{not-preferred-trans, dearer-not-preferred, larger-not-preferred}
-use Rattle.single.specs.Rates.{candidates, greatest, weighed}
-use Rattle.single.specs.Single.{bucketOf, offeredAt, better, bestOf, cheapestOf, dearer}
-use Rattle.single.specs.SingleLaws.{At, NoneBefore, IsBest, best-is}
+use Rattle.single.specs.Rates.{candidates, greatest, weighed, dearer}
+use Rattle.single.specs.Single.{bucketOf, offeredAt, better, bestOf, cheapestOf}
+use Rattle.single.specs.BestLaws.{At, NoneBefore, IsBest, found-at, best-is}
 
 -- A rate of at least every demand carries with any depth and any tokens.
 pub greatest-carries : (r B y : ℕ) (ds : List ℕ) → greatest ds ≤ r → carriesFrom r B y ds ≡ true
@@ -39,7 +38,7 @@ module _ (t : Tariff) (ds : List ℕ) where
 
   passed-by : (r : ℕ) (x : Priced) → NoneBefore t ds x r → (o : Answer ℕ) → tariffDepth t r ds ≡ o → better (figures x) (offeredAt t (length ds) r o) ≡ figures x
   passed-by r x h (refused n) e = refl
-  passed-by r x h (figures B) e = rw (h B (record { inside = depth-within _ _ _ _ _ e; carried = depth-carries _ _ _ _ _ e }))
+  passed-by r x h (figures B) e = rw (h B (found-at t ds r B e))
 
   -- Where no rate from k on has a bucket that is preferred, weighing them changes nothing.
   weighed-on : (k : ℕ) (x : Priced) → bestOf t ds k ≡ figures x → NoneFrom x k → (m : ℕ) → bestOf t ds (m + k) ≡ figures x

@@ -3,9 +3,8 @@
 -- Assumes nothing.
 use Prim.Native.Nat.{ℕ, zero, suc, _≤_}
 use mathlib.Core.Path.{_≡_}
-use mathlib.Core.Bool.{Bool, true, false, cond}
+use mathlib.Core.Bool.{true, cond}
 use mathlib.Core.List.{List}
-use lib.Dec.{ltb}
 use lib.ListN.{length}
 use Rattle.terms.specs.declared.Bucket.{Bucket}
 use Rattle.terms.specs.declared.Tariff.{Tariff}
@@ -60,8 +59,3 @@ singleOf t ds = weigh (periodsOk (length ds)) 3 (weigh (tariffOk t) 5 (cheapestO
 abbrev pub singleSays : SingleAnswer → Answer Priced
 singleSays (Found x) = figures x
 singleSays (Refused x) = refused (numberOf x)
-
--- A bucket costs more than what was found so far, if anything was.
-abbrev pub dearer : Priced → Answer Priced → Bool
-dearer y (figures x) = ltb (x .cost) (y .cost)
-dearer y (refused n) = false

@@ -15,7 +15,8 @@ use terms::tariff_in_range;
 ghost use mathlib.Core.Path.{_≡_};
 ghost use lib.ListN.{length};
 ghost use Rattle.terms.specs.RangeLaws.{PeriodsRange, TariffRange};
-ghost use Rattle.single.specs.Single.{cheapestOf, dearer, singleOf, singleSays};
+ghost use Rattle.single.specs.Rates.{dearer};
+ghost use Rattle.single.specs.Single.{cheapestOf, singleOf, singleSays};
 
 // What the single call answers: the bucket with its cost, or the refusal.
 pub enum SingleAnswer {

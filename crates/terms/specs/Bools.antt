@@ -1,7 +1,7 @@
 -- Laws of tests: a conjunction that is true, and a branch on the negation of a call's answer.
 -- Assumes nothing.
 use mathlib.Core.Path.{_≡_, refl, sym, _∙_}
-use mathlib.Core.Bool.{Bool, true, false, not, _&&_}
+use mathlib.Core.Bool.{Bool, true, false, false≢true, not, _&&_}
 use borrow.Author.Tests.{not-true, not-false}
 
 pub and-both : (a b : Bool) → a && b ≡ true → (a ≡ true) × (b ≡ true)
@@ -25,7 +25,10 @@ and-six a b c d e f h =
 pub both-and : {a b : Bool} → a ≡ true → b ≡ true → a && b ≡ true
 both-and h k = rw (h, k)
 
--- What is not true is false.
+-- Nothing is true and false, and what is not true is false.
+pub true-false : {b : Bool} → b ≡ true → b ≡ false → ⊥
+true-false h k = false≢true (sym k ∙ h)
+
 pub not-true-false : (b : Bool) → (b ≡ true → ⊥) → b ≡ false
 not-true-false true h = absurd (h refl)
 not-true-false false h = refl

@@ -14,7 +14,7 @@ use Rattle.terms.specs.RangeLaws.{TariffRange, periods-range, tariff-range}
 use Rattle.terms.specs.Bools.{and-both, check-passed, check-failed}
 use Rattle.depth.specs.Depth.{rateOk, depthOf}
 use Rattle.depth.specs.Walk.{depthFrom}
-use Rattle.depth.specs.WalkLaws.{walk-range, range-more}
+use Rattle.depth.specs.WalkRanges.{walk-range, range-more}
 use Rattle.depth.specs.DepthLaws.{depth-walk}
 use Rattle.depth.proofs.depths.depth_at.Statement.{statement}
 use Rattle.depth.proofs.depths.depth_at.Tie as tie

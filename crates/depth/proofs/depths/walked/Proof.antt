@@ -11,7 +11,8 @@ use Rattle.bucket.specs.Trace.{Demands}
 use Rattle.bucket.specs.Laws.{demands-take}
 use Rattle.depth.specs.declared.walk.Walk.{Walk}
 use Rattle.depth.specs.Walk.{started, pushed, walkOf}
-use Rattle.depth.specs.WalkLaws.{WalkRange, walk-next, walk-range, range-more}
+use Rattle.depth.specs.WalkLaws.{walk-next}
+use Rattle.depth.specs.WalkRanges.{WalkRange, walk-range, range-more}
 use Rattle.depth.proofs.depths.walked.Statement.{statement}
 use Rattle.depth.proofs.depths.walked.Tie as tie
 

@@ -19,8 +19,8 @@ use Rattle.depth.specs.DepthLaws.{depth-in-range, depth-within}
 use Rattle.single.specs.declared.costs.Priced.{Priced}
 use Rattle.single.specs.declared.singles.SingleAnswer.{SingleAnswer}
 use Rattle.single.specs.declared.singles.SingleAnswer.the-variants.{Refused}
-use Rattle.single.specs.Rates.{greatest, weighed}
-use Rattle.single.specs.Single.{offeredAt, better, bestOf, singleSays, dearer}
+use Rattle.single.specs.Rates.{greatest, weighed, dearer}
+use Rattle.single.specs.Single.{offeredAt, better, bestOf, singleSays}
 use Rattle.single.specs.RateLaws.{weighed-enough, dearer-enough}
 use Rattle.single.proofs.singles.cheapest.Statement.{statement}
 use Rattle.single.proofs.singles.cheapest.Tie as tie
