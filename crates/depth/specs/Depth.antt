@@ -31,6 +31,7 @@ tariffDepth t r ds = leastDepth (t .factor .p) (t .factor .q) (t .«depth_cap» 
 abbrev pub rateOk : Tariff → ℕ → Bool
 rateOk t r = tariffOk t && leb r (t .«rate_cap» .0)
 
+-- 3: the trace's length; 5: the tariff or the rate; 7: no depth.
 unfoldable pub depthOf : Tariff → ℕ → List ℕ → Answer ℕ
 depthOf t r ds = weigh (periodsOk (length ds)) 3 (weigh (rateOk t r) 5 (tariffDepth t r ds))
 

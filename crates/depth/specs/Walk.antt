@@ -25,6 +25,7 @@ pushed r w d =
       stretch = max (w .stretch) (w .ending + d - r);
     }
 
+-- The walk of a whole trace.
 unfoldable pub walkOf : ℕ → List ℕ → Walk
 walkOf r ds = foldl (pushed r) started ds
 

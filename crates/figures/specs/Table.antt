@@ -18,7 +18,7 @@ use Rattle.depth.specs.Depth.{firstFrom, depthOf}
 use Rattle.single.specs.declared.costs.Priced.{Priced}
 use Rattle.single.specs.Cost.{costOf}
 use Rattle.single.specs.Preference.{smaller, preferred}
-use Rattle.single.specs.Single.{bucketOf, offered, bestOf, singleOf}
+use Rattle.single.specs.Single.{bucketOf, atRate, bestOf, singleOf}
 use Rattle.figures.specs.Rows.{Row, rowOf, allRight, Hold, all-hold}
 
 -- the factor of the printed case
@@ -84,12 +84,12 @@ table =
     ∷ record { given = rowOf depthRow (depthOf (capped 3) 5 case); paper = refused 7 }
     -- C: single for 4,8,2: (5, 4), cost 46; rate 6 with depth 2 costs the same
     ∷ record { given = rowOf singleRow (singleOf printed case); paper = figures (pos 5 ∷ pos 4 ∷ pos 46 ∷ []) }
-    ∷ record { given = rowOf singleRow (offered printed case 6); paper = figures (pos 6 ∷ pos 2 ∷ pos 46 ∷ []) }
+    ∷ record { given = rowOf singleRow (atRate printed case 6); paper = figures (pos 6 ∷ pos 2 ∷ pos 46 ∷ []) }
     -- D: trace 3: (3, 0), cost 21; rates 0, 1, 2 cost 25, 22, 24
     ∷ record { given = rowOf singleRow (singleOf uneven (3 ∷ [])); paper = figures (pos 3 ∷ pos 0 ∷ pos 21 ∷ []) }
-    ∷ record { given = rowOf costRow (offered uneven (3 ∷ []) 0); paper = figures (pos 25 ∷ []) }
-    ∷ record { given = rowOf costRow (offered uneven (3 ∷ []) 1); paper = figures (pos 22 ∷ []) }
-    ∷ record { given = rowOf costRow (offered uneven (3 ∷ []) 2); paper = figures (pos 24 ∷ []) }
+    ∷ record { given = rowOf costRow (atRate uneven (3 ∷ []) 0); paper = figures (pos 25 ∷ []) }
+    ∷ record { given = rowOf costRow (atRate uneven (3 ∷ []) 1); paper = figures (pos 22 ∷ []) }
+    ∷ record { given = rowOf costRow (atRate uneven (3 ∷ []) 2); paper = figures (pos 24 ∷ []) }
     -- I: trace 0: (0, 0), cost 4
     ∷ record { given = rowOf singleRow (singleOf printed (0 ∷ [])); paper = figures (pos 0 ∷ pos 0 ∷ pos 4 ∷ []) }
     -- J: meter rate 5, depth 4, offers 4,8,2,9: sent 22, over 1, lost 0, tokens 0

@@ -20,7 +20,7 @@ use Rattle.single.specs.declared.costs.Priced.{Priced}
 use Rattle.single.specs.Cost.{costOf, pricedAt}
 use Rattle.single.specs.Preference.{preferred}
 use Rattle.single.specs.PreferenceLaws.{not-preferred-trans, preferred-asym, larger-not-preferred}
-use Rattle.single.specs.Single.{bucketOf, offeredAt, better, bestOf}
+use Rattle.single.specs.Single.{bucketOf, atDepth, better, bestOf}
 
 module _ (t : Tariff) (ds : List ℕ) where
   -- (r, B) carries the trace, B being inside the cap.
@@ -75,7 +75,7 @@ module _ (t : Tariff) (ds : List ℕ) where
     stays x b this =
         record { below = omega (arith, b .below); serves = b .serves; paid = b .paid; none-before = below-suc _ k (b .none-before) this }
 
-    one-more : (a : Answer Priced) → IsBest k a → (o : Answer ℕ) → tariffDepth t k ds ≡ o → IsBest (suc k) (better a (offeredAt t (length ds) k o))
+    one-more : (a : Answer Priced) → IsBest k a → (o : Answer ℕ) → tariffDepth t k ds ≡ o → IsBest (suc k) (better a (atDepth t (length ds) k o))
     one-more (figures x) b (refused n) e = stays x b (λ B s. absurd (passed-over n e B s))
     one-more (refused m) b (refused n) e = (b .0, below-suc _ k (b .1) (passed-over n e))
     one-more (refused m) b (figures B) e = taken B e (λ r l C s. absurd (b .1 r l C s))

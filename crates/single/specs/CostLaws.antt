@@ -2,7 +2,7 @@
 -- Assumes nothing.
 use Prim.Native.Nat.{ℕ, _+_, _*_, _≤_}
 use native.Mathlib.Omega.{arith}
-use native.Mathlib.Nat.{mul-le-mul, mul-le-mul-left, mul-le-mul-right, add-le-add}
+use native.Mathlib.Nat.{mul-le-mul, mul-le-mul-left, mul-le-mul-right, add-le-add, le-add-right, le-refl}
 use Rattle.terms.specs.declared.Bucket.{Bucket}
 use Rattle.terms.specs.declared.Tariff.{Tariff}
 use Rattle.terms.specs.Limits.{rateLimit, depthLimit, priceLimit, feeLimit}
@@ -14,6 +14,12 @@ unfolding costOf
 cost-mono t n b c h k =
     let l = add-le-add (mul-le-mul-left (t .«rate_price» .0) h) (mul-le-mul-left (t .«depth_price» .0) k) in
     omega (arith, mul-le-mul-right n l)
+
+-- Cost is never below rate price × r × T + F, which is the cost at depth 0.
+pub cost-floor : (t : Tariff) (n : ℕ) (b : Bucket) → t .«rate_price» .0 * b .rate .0 * n + t .fee ≤ costOf t n b
+unfolding costOf
+cost-floor t n b =
+    add-le-add (mul-le-mul-right n (le-add-right (t .«rate_price» .0 * b .rate .0) (t .«depth_price» .0 * b .depth .0))) (le-refl (t .fee))
 
 -- The most that a bucket costs in a period, without the fee.
 abbrev pub periodLimit : ℕ

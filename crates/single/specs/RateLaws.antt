@@ -21,7 +21,7 @@ use Rattle.single.specs.Cost.{pricedAt}
 use Rattle.single.specs.CostLaws.{cost-mono}
 use Rattle.single.specs.PreferenceLaws.{not-preferred-trans, dearer-not-preferred, larger-not-preferred}
 use Rattle.single.specs.Rates.{candidates, greatest, weighed, dearer}
-use Rattle.single.specs.Single.{bucketOf, offeredAt, better, bestOf, cheapestOf}
+use Rattle.single.specs.Single.{bucketOf, atDepth, better, bestOf, cheapestOf}
 use Rattle.single.specs.BestLaws.{At, NoneBefore, IsBest, found-at, best-is}
 
 -- A rate of at least every demand carries with any depth and any tokens.
@@ -36,7 +36,7 @@ module _ (t : Tariff) (ds : List ℕ) where
   abbrev NoneFrom : Priced → ℕ → Type 0
   NoneFrom x k = (r : ℕ) → k ≤ r → NoneBefore t ds x r
 
-  passed-by : (r : ℕ) (x : Priced) → NoneBefore t ds x r → (o : Answer ℕ) → tariffDepth t r ds ≡ o → better (figures x) (offeredAt t (length ds) r o) ≡ figures x
+  passed-by : (r : ℕ) (x : Priced) → NoneBefore t ds x r → (o : Answer ℕ) → tariffDepth t r ds ≡ o → better (figures x) (atDepth t (length ds) r o) ≡ figures x
   passed-by r x h (refused n) e = refl
   passed-by r x h (figures B) e = rw (h B (found-at t ds r B e))
 
@@ -46,7 +46,7 @@ module _ (t : Tariff) (ds : List ℕ) where
   weighed-on k x e h zero = ap (bestOf t ds) (zero-add k) ∙ e
   weighed-on k x e h (suc m) =
       ap (bestOf t ds) (suc-add m k)
-      ∙ ap (λ (a : Answer Priced). better a (offeredAt t (length ds) (m + k) (tariffDepth t (m + k) ds))) (weighed-on k x e h m)
+      ∙ ap (λ (a : Answer Priced). better a (atDepth t (length ds) (m + k) (tariffDepth t (m + k) ds))) (weighed-on k x e h m)
       ∙ passed-by (m + k) x (h (m + k) (omega arith)) (tariffDepth t (m + k) ds) refl
 
   weighed-all : (k : ℕ) (x : Priced) → bestOf t ds k ≡ figures x → NoneFrom x k → k ≤ candidates t → bestOf t ds k ≡ cheapestOf t ds

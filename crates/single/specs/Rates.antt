@@ -12,6 +12,7 @@ use Rattle.single.specs.declared.costs.Priced.{Priced}
 abbrev pub candidates : Tariff → ℕ
 candidates t = t .«rate_cap» .0 + 1
 
+-- The greatest demand; of no period 0.
 unfoldable pub greatest : List ℕ → ℕ
 greatest [] = 0
 greatest (d ∷ ds) = max d (greatest ds)

@@ -1,5 +1,5 @@
 -- The single bucket: the pair inside the caps that carries the trace at least cost (01, "Single"; refusals 3, 5 and 7).
--- Each rate is weighed at its smallest depth. That no other pair does better is a law (`SingleLaws.single-is`).
+-- Each rate is weighed at its smallest depth. That no other pair does better is a law (`SingleLaws.single-cheapest`).
 -- Assumes nothing.
 use Prim.Native.Nat.{ℕ, zero, suc, _≤_}
 use mathlib.Core.Path.{_≡_}
@@ -29,15 +29,16 @@ pub record Serves (t : Tariff) (ds : List ℕ) (b : Bucket) : Type 0 where
   pub depths : b .depth .0 ≤ t .«depth_cap» .0
   pub carried : carries (t .factor .p) (t .factor .q) (b .rate .0) (b .depth .0) ds ≡ true
 
--- The bucket with rate r and the depth found for it, over n periods; a rate with no depth is passed over.
-abbrev pub offeredAt : Tariff → ℕ → ℕ → Answer ℕ → Answer Priced
-offeredAt t n r (figures B) = figures (pricedAt t n (bucketOf r B))
-offeredAt t n r (refused m) = refused m
+-- The bucket with rate r and the depth found for it, priced over n periods; a rate with no depth has none.
+abbrev pub atDepth : Tariff → ℕ → ℕ → Answer ℕ → Answer Priced
+atDepth t n r (figures B) = figures (pricedAt t n (bucketOf r B))
+atDepth t n r (refused m) = refused m
 
-abbrev pub offered : Tariff → List ℕ → ℕ → Answer Priced
-offered t ds r = offeredAt t (length ds) r (tariffDepth t r ds)
+-- The bucket that a rate is weighed by: its smallest depth inside the cap.
+abbrev pub atRate : Tariff → List ℕ → ℕ → Answer Priced
+atRate t ds r = atDepth t (length ds) r (tariffDepth t r ds)
 
--- What was found so far, or the new one where that is preferred.
+-- What was found so far, or the new one where that is preferred; a rate with no depth is passed over.
 abbrev pub better : Answer Priced → Answer Priced → Answer Priced
 better a (refused n) = a
 better (refused n) (figures y) = figures y
@@ -46,12 +47,13 @@ better (figures x) (figures y) = cond (preferred y x) (figures y) (figures x)
 -- The best of the first k candidate rates.
 unfoldable pub bestOf : Tariff → List ℕ → ℕ → Answer Priced
 bestOf t ds zero = refused 7
-bestOf t ds (suc k) = better (bestOf t ds k) (offered t ds k)
+bestOf t ds (suc k) = better (bestOf t ds k) (atRate t ds k)
 
 -- … and of all of them: the single bucket of a trace, or of a run.
 abbrev pub cheapestOf : Tariff → List ℕ → Answer Priced
 cheapestOf t ds = bestOf t ds (candidates t)
 
+-- 3: the trace's length; 5: the tariff; 7: no bucket.
 unfoldable pub singleOf : Tariff → List ℕ → Answer Priced
 singleOf t ds = weigh (periodsOk (length ds)) 3 (weigh (tariffOk t) 5 (cheapestOf t ds))
 

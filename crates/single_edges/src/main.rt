@@ -19,13 +19,14 @@ fn main() {
     singles::edges();
 }
 
-// Two prices, the fee, the factor and the caps of a tariff.
+// The two prices and the fee of a tariff.
 struct Prices {
     rate: u32,
     depth: u32,
     fee: u32,
 }
 
+// Its caps on rate and depth.
 struct Caps {
     rate: u32,
     depth: u32,

@@ -1,23 +1,35 @@
 -- Each refusal is the first rule that its test finds broken; past both tests the depth read off the walk is the smallest that carries.
-use Prim.Native.Nat.{_≤_}
+use Prim.Native.Nat.{ℕ, _≤_}
 use native.Mathlib.Omega.{arith}
 use native.Mathlib.Nat.{le-trans}
-use mathlib.Core.Path.{_≡_, _∙_, ap}
+use mathlib.Core.Path.{_≡_, sym, ap, _∙_}
 use mathlib.Core.Bool.{true}
+use mathlib.Core.List.{List}
 use borrow.Author.Needs.{needs}
 use borrow.Author.Tests.{leb-true}
 use lib.Dec.{leb}
 use lib.ListN.{length}
+use Rattle.terms.specs.declared.Tariff.{Tariff}
+use Rattle.terms.specs.Answer.{Answer}
 use Rattle.terms.specs.Limits.{rateLimit}
 use Rattle.terms.specs.Ranges.{periodsOk, tariffOk}
-use Rattle.terms.specs.RangeLaws.{TariffRange, periods-range, tariff-range}
+use Rattle.terms.specs.RangeLaws.{FactorRange, TariffRange, periods-range, tariff-range}
 use Rattle.terms.specs.Bools.{and-both, check-passed, check-failed}
+use Rattle.depth.specs.declared.walk.Walk.{Walk}
 use Rattle.depth.specs.Depth.{rateOk, depthOf}
-use Rattle.depth.specs.Walk.{depthFrom}
+use Rattle.depth.specs.Walk.{walkOf, depthFrom}
 use Rattle.depth.specs.WalkRanges.{walk-range, range-more}
-use Rattle.depth.specs.DepthLaws.{depth-walk}
+use Rattle.depth.specs.DepthLaws.{depth-walk, depth-in-range}
 use Rattle.depth.proofs.depths.depth_at.Statement.{statement}
 use Rattle.depth.proofs.depths.depth_at.Tie as tie
+
+-- What is read off the walk of the trace is the call's answer.
+read-off : (t : Tariff) (r : ℕ) (ds : List ℕ) (w : Walk) (a : Answer ℕ) → FactorRange (t .factor) → periodsOk (length ds) ≡ true → rateOk t r ≡ true
+    → w ≡ walkOf r ds → a ≡ depthFrom (t .factor .p) (t .factor .q) (t .«depth_cap» .0) w → a ≡ depthOf t r ds
+read-off t r ds w a f n k e h =
+    h ∙ ap (depthFrom (t .factor .p) (t .factor .q) (t .«depth_cap» .0)) e
+    ∙ depth-walk (t .factor .p) (t .factor .q) (t .«depth_cap» .0) r ds (f .part) (f .some)
+    ∙ sym (depth-in-range t r ds n k)
 
 periods-in-range-requires : tie.Need-periods-in-range-requires
 periods-in-range-requires c κs = search needs
@@ -61,11 +73,9 @@ depth-requires c κs =
     (t .factor, (t .depth-caps, rw (c .walked .ensures) (range-more n (walk-range _ _ (rate d) (record { each = λ i. omega (arith, s .shared-slice-known .given i) })))))
 
 returns-3 : tie.Need-returns-3
-unfolding depthOf
 returns-3 c =
     let d = c .before .before in
-    let f = tariff d .factor in
-    c .depth .ensures ∙ ap (depthFrom _ _ _) (c .before .walked .ensures) ∙ depth-walk _ _ _ _ _ (f .part) (f .some) ∙ rw (periods (d .before .before), figures d)
+    read-off _ _ _ _ _ (tariff d .factor) (periods (d .before .before)) (figures d) (c .before .walked .ensures) (c .depth .ensures)
 
 pub depth-at-spec : {M : Type 1} → statement M
 depth-at-spec =

@@ -20,7 +20,7 @@ use Rattle.single.specs.declared.costs.Priced.{Priced}
 use Rattle.single.specs.declared.singles.SingleAnswer.{SingleAnswer}
 use Rattle.single.specs.declared.singles.SingleAnswer.the-variants.{Refused}
 use Rattle.single.specs.Rates.{greatest, weighed, dearer}
-use Rattle.single.specs.Single.{offeredAt, better, bestOf, singleSays}
+use Rattle.single.specs.Single.{atDepth, better, bestOf, singleSays}
 use Rattle.single.specs.RateLaws.{weighed-enough, dearer-enough}
 use Rattle.single.proofs.singles.cheapest.Statement.{statement}
 use Rattle.single.proofs.singles.cheapest.Tie as tie
@@ -31,11 +31,11 @@ record Weighing (t : Tariff) (ds : List ℕ) (end : ℕ) (best : SingleAnswer) (
 
 -- One more rate.
 next-best : (t : Tariff) (ds : List ℕ) (k : ℕ) (o : Answer ℕ) (a : Answer Priced) → o ≡ tariffDepth t k ds → a ≡ bestOf t ds k
-    → better a (offeredAt t (length ds) k o) ≡ bestOf t ds (k + 1)
+    → better a (atDepth t (length ds) k o) ≡ bestOf t ds (k + 1)
 unfolding bestOf
 next-best t ds k o a e f =
-    ap (λ (x : Answer Priced). better x (offeredAt t (length ds) k o)) f
-    ∙ ap (λ (y : Answer ℕ). better (bestOf t ds k) (offeredAt t (length ds) k y)) e
+    ap (λ (x : Answer Priced). better x (atDepth t (length ds) k o)) f
+    ∙ ap (λ (y : Answer ℕ). better (bestOf t ds k) (atDepth t (length ds) k y)) e
     ∙ ap (bestOf t ds) (sym (add-one k))
 
 start : (t : Tariff) (ds : List ℕ) (end : ℕ) → Weighing t ds end (Refused NoPlan) 0
