@@ -1,11 +1,11 @@
 -- What is found among the first k candidate rates is the best of all pairs with those rates.
 -- By induction over the rates: at one rate the smallest depth is the cheapest, since cost never falls with depth.
 -- Assumes nothing.
-use Prim.Native.Nat.{ℕ, zero, suc, _≤_, _<_}
+use Prim.Native.Nat.{ℕ, zero, suc, _+_, _≤_, _<_}
 use native.Mathlib.Omega.{arith}
 use native.Mathlib.Nat.{le-refl}
 use native.Mathlib.Numerals.{add-one}
-use mathlib.Core.Path.{_≡_, refl}
+use mathlib.Core.Path.{_≡_, refl, sym, ap, _∙_}
 use mathlib.Core.Bool.{Bool, true, false, cond}
 use mathlib.Core.List.{List}
 use borrow.Author.Count.{below-more}
@@ -89,3 +89,12 @@ module _ (t : Tariff) (ds : List ℕ) where
   unfolding bestOf
   best-is zero = (refl, λ r l. absurd (omega arith))
   best-is (suc k) = one-more k (bestOf t ds k) (best-is k) (tariffDepth t k ds) refl
+
+  -- One more rate, from what the depth at it is and what was found before it.
+  pub best-next : (k : ℕ) (o : Answer ℕ) (a : Answer Priced) → o ≡ tariffDepth t k ds → a ≡ bestOf t ds k
+      → better a (atDepth t (length ds) k o) ≡ bestOf t ds (k + 1)
+  unfolding bestOf
+  best-next k o a e f =
+      ap (λ (x : Answer Priced). better x (atDepth t (length ds) k o)) f
+      ∙ ap (λ (y : Answer ℕ). better (bestOf t ds k) (atDepth t (length ds) k y)) e
+      ∙ ap (bestOf t ds) (sym (add-one k))

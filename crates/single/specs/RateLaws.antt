@@ -3,7 +3,7 @@
 -- Assumes nothing.
 use Prim.Native.Nat.{ℕ, zero, suc, _+_, _-_, _≤_, _<_, min}
 use native.Mathlib.Omega.{arith}
-use native.Mathlib.Nat.{le-trans, lt-of-lt-of-le, le-max-left, le-max-right, min-eq-left, zero-add, suc-add}
+use native.Mathlib.Nat.{le-trans, lt-of-lt-of-le, le-max-left, le-max-right, min-eq-left, add-zero}
 use mathlib.Core.Path.{_≡_, refl, sym, ap, _∙_}
 use mathlib.Core.Bool.{Bool, true, false, false≢true}
 use mathlib.Core.List.{List, [], _∷_}
@@ -22,7 +22,7 @@ use Rattle.single.specs.CostLaws.{cost-mono}
 use Rattle.single.specs.PreferenceLaws.{not-preferred-trans, dearer-not-preferred, larger-not-preferred}
 use Rattle.single.specs.Rates.{candidates, greatest, weighed, dearer}
 use Rattle.single.specs.Single.{bucketOf, atDepth, better, bestOf, cheapestOf}
-use Rattle.single.specs.BestLaws.{At, NoneBefore, IsBest, found-at, best-is}
+use Rattle.single.specs.BestLaws.{At, NoneBefore, IsBest, found-at, best-is, best-next}
 
 -- A rate of at least every demand carries with any depth and any tokens.
 pub greatest-carries : (r B y : ℕ) (ds : List ℕ) → greatest ds ≤ r → carriesFrom r B y ds ≡ true
@@ -41,24 +41,23 @@ module _ (t : Tariff) (ds : List ℕ) where
   passed-by r x h (figures B) e = rw (h B (found-at t ds r B e))
 
   -- Where no rate from k on has a bucket that is preferred, weighing them changes nothing.
-  weighed-on : (k : ℕ) (x : Priced) → bestOf t ds k ≡ figures x → NoneFrom x k → (m : ℕ) → bestOf t ds (m + k) ≡ figures x
-  unfolding bestOf
-  weighed-on k x e h zero = ap (bestOf t ds) (zero-add k) ∙ e
+  weighed-on : (k : ℕ) (x : Priced) → figures x ≡ bestOf t ds k → NoneFrom x k → (m : ℕ) → figures x ≡ bestOf t ds (k + m)
+  weighed-on k x e h zero = e ∙ ap (bestOf t ds) (sym (add-zero k))
   weighed-on k x e h (suc m) =
-      ap (bestOf t ds) (suc-add m k)
-      ∙ ap (λ (a : Answer Priced). better a (atDepth t (length ds) (m + k) (tariffDepth t (m + k) ds))) (weighed-on k x e h m)
-      ∙ passed-by (m + k) x (h (m + k) (omega arith)) (tariffDepth t (m + k) ds) refl
+      sym (passed-by (k + m) x (h (k + m) (omega arith)) (tariffDepth t (k + m) ds) refl)
+      ∙ best-next t ds (k + m) (tariffDepth t (k + m) ds) (figures x) refl (weighed-on k x e h m)
+      ∙ ap (bestOf t ds) (omega arith)
 
-  weighed-all : (k : ℕ) (x : Priced) → bestOf t ds k ≡ figures x → NoneFrom x k → k ≤ candidates t → bestOf t ds k ≡ cheapestOf t ds
+  weighed-all : (k : ℕ) (x : Priced) → figures x ≡ bestOf t ds k → NoneFrom x k → k ≤ candidates t → figures x ≡ cheapestOf t ds
   weighed-all k x e h l =
-      let m : candidates t - k + k ≡ candidates t = omega arith in
-      e ∙ sym (weighed-on k x e h (candidates t - k)) ∙ ap (bestOf t ds) m
+      let m : k + (candidates t - k) ≡ candidates t = omega arith in
+      weighed-on k x e h (candidates t - k) ∙ ap (bestOf t ds) m
 
   -- Once the rates left cost more than what is found, even at depth 0.
   pub dearer-enough : (k : ℕ) (a : Answer Priced) → a ≡ bestOf t ds (k + 1) → dearer (pricedAt t (length ds) (bucketOf k 0)) a ≡ true → k + 1 ≤ candidates t → a ≡ cheapestOf t ds
   dearer-enough k (refused n) e h l = absurd (false≢true h)
   dearer-enough k (figures x) e h l =
-      e ∙ weighed-all (k + 1) x (sym e)
+      weighed-all (k + 1) x e
       (λ r m B s. dearer-not-preferred x _ (lt-of-lt-of-le (ltb-true _ _ h) (cost-mono t (length ds) (bucketOf k 0) (bucketOf r B) (omega arith) (omega arith))))
       l
 
@@ -66,7 +65,7 @@ module _ (t : Tariff) (ds : List ℕ) where
   zero-depth : At t ds (greatest ds) 0
   zero-depth = record { inside = omega arith; carried = greatest-carries (greatest ds) 0 _ ds (omega arith) }
 
-  above-none : (a : Answer Priced) → bestOf t ds (greatest ds + 1) ≡ a → IsBest t ds (greatest ds + 1) a → greatest ds + 1 ≤ candidates t → bestOf t ds (greatest ds + 1) ≡ cheapestOf t ds
+  above-none : (a : Answer Priced) → a ≡ bestOf t ds (greatest ds + 1) → IsBest t ds (greatest ds + 1) a → greatest ds + 1 ≤ candidates t → a ≡ cheapestOf t ds
   above-none (refused n) e k l = absurd (k .1 (greatest ds) (omega arith) 0 zero-depth)
   above-none (figures x) e k l =
       weighed-all (greatest ds + 1) x e

@@ -3,14 +3,13 @@
 use Prim.Native.Nat.{ℕ, _+_, _-_, _≤_, _<_}
 use native.Mathlib.Omega.{arith}
 use native.Mathlib.Nat.{le-antisymm, le-trans, min-le-left}
-use native.Mathlib.Numerals.{add-one}
 use mathlib.Core.Path.{_≡_, refl, sym, ap, _∙_}
 use mathlib.Core.List.{List}
 use borrow.Author.Needs.{needs}
 use borrow.Author.Tests.{le-leb}
 use lib.ListN.{length}
 use Rattle.terms.specs.declared.Tariff.{Tariff}
-use Rattle.terms.specs.Answer.{Answer, figures, refused}
+use Rattle.terms.specs.Answer.{figures, refused}
 use Rattle.terms.specs.RangeLaws.{PeriodsRange, TariffRange, tariff-ok, periods-ok}
 use Rattle.terms.specs.Bools.{both-and}
 use Rattle.terms.specs.declared.refusal.Refusal.the-variants.{NoPlan}
@@ -20,7 +19,8 @@ use Rattle.single.specs.declared.costs.Priced.{Priced}
 use Rattle.single.specs.declared.singles.SingleAnswer.{SingleAnswer}
 use Rattle.single.specs.declared.singles.SingleAnswer.the-variants.{Refused}
 use Rattle.single.specs.Rates.{greatest, weighed, dearer}
-use Rattle.single.specs.Single.{atDepth, better, bestOf, singleSays}
+use Rattle.single.specs.Single.{better, bestOf, singleSays}
+use Rattle.single.specs.BestLaws.{best-next}
 use Rattle.single.specs.RateLaws.{weighed-enough, dearer-enough}
 use Rattle.single.proofs.singles.cheapest.Statement.{statement}
 use Rattle.single.proofs.singles.cheapest.Tie as tie
@@ -28,15 +28,6 @@ use Rattle.single.proofs.singles.cheapest.Tie as tie
 record Weighing (t : Tariff) (ds : List ℕ) (end : ℕ) (best : SingleAnswer) (k : ℕ) : Type 0 where
   inside : k ≤ end
   so-far : singleSays best ≡ bestOf t ds k
-
--- One more rate.
-next-best : (t : Tariff) (ds : List ℕ) (k : ℕ) (o : Answer ℕ) (a : Answer Priced) → o ≡ tariffDepth t k ds → a ≡ bestOf t ds k
-    → better a (atDepth t (length ds) k o) ≡ bestOf t ds (k + 1)
-unfolding bestOf
-next-best t ds k o a e f =
-    ap (λ (x : Answer Priced). better x (atDepth t (length ds) k o)) f
-    ∙ ap (λ (y : Answer ℕ). better (bestOf t ds k) (atDepth t (length ds) k y)) e
-    ∙ ap (bestOf t ds) (sym (add-one k))
 
 start : (t : Tariff) (ds : List ℕ) (end : ℕ) → Weighing t ds end (Refused NoPlan) 0
 unfolding bestOf
@@ -95,7 +86,7 @@ loop-again c =
     let d = c .before .before in
     record {
       inside = omega (arith, d .before .loop-test .taken);
-      so-far = next-best _ _ _ (refused _) _ (sym (ap depthSays (c .enum-told .given .1)) ∙ there d) (d .before .before .loop .inv .so-far);
+      so-far = best-next _ _ _ (refused _) _ (sym (ap depthSays (c .enum-told .given .1)) ∙ there d) (d .before .before .loop .inv .so-far);
     }
 
 with-cost-requires : tie.Need-with-cost-requires Inv-loop μ-loop
@@ -124,7 +115,7 @@ best-here c =
     let d = c .before .before .before .before in
     c .better-of .ensures
     ∙ ap (λ (x : Priced). better (singleSays (d .before .before .before .before .loop .best)) (figures x)) (c .before .before .with-cost .ensures)
-    ∙ next-best _ _ _ (figures _) _ (found d) (d .before .before .before .before .loop .inv .so-far)
+    ∙ best-next _ _ _ (figures _) _ (found d) (d .before .before .before .before .loop .inv .so-far)
 
 returns : tie.Need-returns Inv-loop μ-loop
 returns c =
