@@ -2,13 +2,11 @@
 -- Assumes nothing.
 use Prim.Native.Nat.{ℕ, zero, suc, _+_, _≤_, _<_}
 use native.Mathlib.Omega.{arith}
-use native.Mathlib.Nat.{le-antisymm}
+use native.Mathlib.Nat.{le-antisymm, lt-of-not-le}
 use native.Mathlib.Numerals.{add-one}
 use mathlib.Core.Path.{_≡_, refl, sym, ap, _∙_}
 use mathlib.Core.Bool.{Bool, true, false, cond}
 use borrow.Author.Count.{below-more}
-use borrow.Author.Tests.{leb-true, leb-false}
-use lib.Dec.{leb}
 use Rattle.terms.specs.Answer.{Answer, figures, refused}
 use Rattle.terms.specs.Bools.{true-false}
 use Rattle.depth.specs.Depth.{firstFrom}
@@ -42,11 +40,7 @@ module _ (test : ℕ → Bool) (cap : ℕ) where
 
   -- No number that passes is below the first.
   pub first-le : (b c : ℕ) → First test cap b → test c ≡ true → b ≤ c
-  first-le b c k h = go (leb b c) refl
-    where
-      go : (t : Bool) → leb b c ≡ t → b ≤ c
-      go true e = leb-true b c e
-      go false e = absurd (true-false h (k .smaller c (leb-false b c e)))
+  first-le b c k h = let l : b < suc c = lt-of-not-le (λ m. true-false h (k .smaller c m)) in omega arith
 
   pub first-some : (c : ℕ) → c ≤ cap → test c ≡ true → (b : ℕ) × (firstFrom test (suc cap) 0 ≡ figures b)
   first-some c l h = go (firstFrom test (suc cap) 0) refl first-is

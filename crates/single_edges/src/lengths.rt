@@ -1,4 +1,4 @@
-// Traces of 0, 1, 512 and 513 periods.
+// Traces of 0, 1, 2, 512 and 513 periods, and one with scenes.
 use crate::full;
 use crate::printed;
 use crate::tariff_of;
