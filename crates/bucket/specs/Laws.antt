@@ -86,18 +86,21 @@ module _ (p q r B : ℕ) (ds : List ℕ) where
   pub carries-lighter : (es : List ℕ) → Lighter es ds → carries p q r B ds ≡ true → carries p q r B es ≡ true
   carries-lighter es l = carried-more r r B B _ _ (omega arith) (omega arith) (omega arith) l
 
--- The first periods of a trace of 16-bit numbers are such a trace.
+-- Traces of 16-bit numbers: with one more period in front, without the first, and the first n of one.
+pub demands-cons : {d : ℕ} {ds : List ℕ} → d ≤ demandLimit → Demands ds → Demands (d ∷ ds)
+demands-cons {d} {ds} l k = record { each = each-of }
+  where
+    each-of : (i : ℕ) → getD (d ∷ ds) i 0 ≤ demandLimit
+    each-of zero = l
+    each-of (suc i) = k .each i
+
+pub demands-tail : {d : ℕ} {ds : List ℕ} → Demands (d ∷ ds) → Demands ds
+demands-tail h = record { each = λ i. h .each (suc i) }
+
 pub demands-take : (n : ℕ) (ds : List ℕ) → Demands ds → Demands (take n ds)
 demands-take zero ds h = record { each = λ i. omega arith }
 demands-take (suc n) [] h = h
-demands-take (suc n) (d ∷ ds) h = demands-cons d (take n ds) (h .each 0) (demands-take n ds (record { each = λ i. h .each (suc i) }))
-  where
-    demands-cons : (d : ℕ) (ds : List ℕ) → d ≤ demandLimit → Demands ds → Demands (d ∷ ds)
-    demands-cons d ds l k = record { each = each-of }
-      where
-        each-of : (i : ℕ) → getD (d ∷ ds) i 0 ≤ demandLimit
-        each-of zero = l
-        each-of (suc i) = k .each i
+demands-take (suc n) (d ∷ ds) h = demands-cons (h .each 0) (demands-take n ds (demands-tail h))
 
 -- ---- Spare
 

@@ -7,6 +7,7 @@ use mathlib.Core.List.{List, [], _∷_, foldl}
 use lib.ListN.{length}
 use Rattle.terms.specs.Limits.{demandLimit, rateLimit}
 use Rattle.bucket.specs.Trace.{Demands}
+use Rattle.bucket.specs.Laws.{demands-tail}
 use Rattle.depth.specs.declared.walk.Walk.{Walk}
 use Rattle.depth.specs.Walk.{started, pushed, walkOf}
 
@@ -37,7 +38,7 @@ range-more h k = omega (arith, k .sums, k .gains, k .openings, k .endings, k .st
 
 range-on : (r : ℕ) {n : ℕ} {w : Walk} (ds : List ℕ) → r ≤ rateLimit → Demands ds → WalkRange n w → WalkRange (n + length ds) (foldl (pushed r) w ds)
 range-on r [] hr h k = range-more (omega arith) k
-range-on r (d ∷ ds) hr h k = range-more (omega arith) (range-on r ds hr (record { each = λ i. h .each (suc i) }) (range-pushed r d k hr (h .each 0)))
+range-on r (d ∷ ds) hr h k = range-more (omega arith) (range-on r ds hr (demands-tail h) (range-pushed r d k hr (h .each 0)))
 
 pub walk-range : (r : ℕ) (ds : List ℕ) → r ≤ rateLimit → Demands ds → WalkRange (length ds) (walkOf r ds)
 unfolding walkOf

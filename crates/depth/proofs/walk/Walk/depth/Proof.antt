@@ -43,17 +43,6 @@ module _ (p q cap : ℕ) (w : Walk) where
     unfolding depthFrom
     some-opening f B ef eB = rw (h, eB, ef)
 
--- A product that is not 0 has a first factor that is not.
-some : (p cap x : ℕ) → x ≤ p * cap → (x ≡ 0 → ⊥) → 1 ≤ p
-some zero cap x h k = omega arith
-some (suc p) cap x h k = omega arith
-
--- past the first test
-fits : (c : tie.Else1) → let a = c .before .before .before .before .before .before .before .args in a .self .opening * a .factor .q ≤ a .factor .p * a .cap .0
-fits c =
-    let a = c .before .before .before .before .before .before .before .args in
-    within (a .factor .p) (a .factor .q) (a .cap .0) (a .self) (not-false _ (c .if1 .left))
-
 cast-opening : tie.Need-cast-opening
 cast-opening c = search needs
 
@@ -77,6 +66,17 @@ returns c = unmet _ _ _ _ (not-true _ (c .if1 .taken))
 
 returns-2 : tie.Need-returns-2
 returns-2 c = no-opening _ _ _ _ (not-false _ (c .before .if1 .left)) (c .if2 .taken)
+
+-- A product that is not 0 has a first factor that is not.
+some : (p cap x : ℕ) → x ≤ p * cap → (x ≡ 0 → ⊥) → 1 ≤ p
+some zero cap x h k = omega arith
+some (suc p) cap x h k = omega arith
+
+-- past the first test
+fits : (c : tie.Else1) → let a = c .before .before .before .before .before .before .before .args in a .self .opening * a .factor .q ≤ a .factor .p * a .cap .0
+fits c =
+    let a = c .before .before .before .before .before .before .before .args in
+    within (a .factor .p) (a .factor .q) (a .cap .0) (a .self) (not-false _ (c .if1 .left))
 
 cast-rounded-up : tie.Need-cast-rounded-up
 cast-rounded-up c = omega (arith, fits (c .before), cap-product (c .before .before .before .before .before .before .before .before))
