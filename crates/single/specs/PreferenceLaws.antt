@@ -24,7 +24,7 @@ not-smaller a b rest h k = rw (le-ltb a b h) (go (eqb a b) refl)
     go true e = k (eqb-true a b e)
     go false e = refl
 
-smaller-not : (a b : ℕ) (rest : Bool) → smaller a b rest ≡ false → (b ≤ a) × (a ≡ b → rest ≡ false)
+pub smaller-not : (a b : ℕ) (rest : Bool) → smaller a b rest ≡ false → (b ≤ a) × (a ≡ b → rest ≡ false)
 unfolding smaller
 smaller-not a b rest h = go (ltb a b) refl h
   where
@@ -32,7 +32,7 @@ smaller-not a b rest h = go (ltb a b) refl h
     go true e k = absurd (true≢false k)
     go false e k = (ltb-false a b e, λ f. rw (eq-eqb a b f) at k)
 
-smaller-so : (a b : ℕ) (rest : Bool) → smaller a b rest ≡ true → (a ≤ b) × (a ≡ b → rest ≡ true)
+pub smaller-so : (a b : ℕ) (rest : Bool) → smaller a b rest ≡ true → (a ≤ b) × (a ≡ b → rest ≡ true)
 unfolding smaller
 smaller-so a b rest h = go (ltb a b) refl h
   where
@@ -40,20 +40,20 @@ smaller-so a b rest h = go (ltb a b) refl h
     go true e k = let l = ltb-true a b e in (omega arith, λ f. absurd (omega arith))
     go false e k = let f = and-both (eqb a b) rest k in let g = eqb-true a b (f .0) in (omega arith, λ i. f .1)
 
-smaller-trans : (a b c : ℕ) (s t u : Bool) → smaller b a s ≡ false → smaller c b t ≡ false → (s ≡ false → t ≡ false → u ≡ false) → smaller c a u ≡ false
+pub smaller-trans : (a b c : ℕ) (s t u : Bool) → smaller b a s ≡ false → smaller c b t ≡ false → (s ≡ false → t ≡ false → u ≡ false) → smaller c a u ≡ false
 smaller-trans a b c s t u h k f =
     let i = smaller-not b a s h in
     let j = smaller-not c b t k in
     not-smaller c a u (le-trans (i .0) (j .0)) (λ e. f (i .1 (le-antisymm (le-trans (j .0) (le-of-eq e)) (i .0))) (j .1 (le-antisymm (le-trans (le-of-eq e) (i .0)) (j .0))))
 
-smaller-same : (a b : ℕ) (s t : Bool) → smaller a b s ≡ false → smaller b a t ≡ false → (a ≡ b) × (s ≡ false) × (t ≡ false)
+pub smaller-same : (a b : ℕ) (s t : Bool) → smaller a b s ≡ false → smaller b a t ≡ false → (a ≡ b) × (s ≡ false) × (t ≡ false)
 smaller-same a b s t h k =
     let i = smaller-not a b s h in
     let j = smaller-not b a t k in
     let e = le-antisymm (j .0) (i .0) in
     (e, i .1 e, j .1 (sym e))
 
-smaller-asym : (a b : ℕ) (s t : Bool) → smaller a b s ≡ true → (s ≡ true → t ≡ false) → smaller b a t ≡ false
+pub smaller-asym : (a b : ℕ) (s t : Bool) → smaller a b s ≡ true → (s ≡ true → t ≡ false) → smaller b a t ≡ false
 smaller-asym a b s t h f = let i = smaller-so a b s h in not-smaller b a t (i .0) (λ e. f (i .1 (sym e)))
 
 -- What is not preferred to y is not preferred to anything that y is not preferred to.

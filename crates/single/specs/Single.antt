@@ -3,12 +3,12 @@
 -- Assumes nothing.
 use Prim.Native.Nat.{ℕ, zero, suc, _≤_}
 use mathlib.Core.Path.{_≡_}
-use mathlib.Core.Bool.{true, cond}
+use mathlib.Core.Bool.{true}
 use mathlib.Core.List.{List}
 use lib.ListN.{length}
 use Rattle.terms.specs.declared.Bucket.{Bucket}
 use Rattle.terms.specs.declared.Tariff.{Tariff}
-use Rattle.terms.specs.Answer.{Answer, figures, refused, weigh}
+use Rattle.terms.specs.Answer.{Answer, figures, refused, weigh, choose}
 use Rattle.terms.specs.Refusals.{numberOf}
 use Rattle.terms.specs.Ranges.{periodsOk, tariffOk}
 use Rattle.bucket.specs.Trace.{carries}
@@ -40,9 +40,7 @@ atRate t ds r = atDepth t (length ds) r (tariffDepth t r ds)
 
 -- What was found so far, or the new one where that is preferred; a rate with no depth is passed over.
 abbrev pub better : Answer Priced → Answer Priced → Answer Priced
-better a (refused n) = a
-better (refused n) (figures y) = figures y
-better (figures x) (figures y) = cond (preferred y x) (figures y) (figures x)
+better = choose preferred
 
 -- The best of the first k candidate rates.
 unfoldable pub bestOf : Tariff → List ℕ → ℕ → Answer Priced

@@ -1,7 +1,7 @@
 // The one bucket inside a tariff's caps that carries a trace at least cost.
 pub mod costs;
 mod preference;
-mod rates;
+pub mod rates;
 mod singles;
 
 pub use costs::Priced;

@@ -1,7 +1,7 @@
 -- What a call answers: the figures or one numbered refusal (00, demand 1; 01, "Refusals by number").
 -- Assumes nothing.
 use Prim.Native.Nat.{ℕ}
-use mathlib.Core.Bool.{Bool, true, false}
+use mathlib.Core.Bool.{Bool, true, false, cond}
 
 pub data Answer (A : Type 0) : Type 0 where
   figures : A → Answer A
@@ -12,3 +12,9 @@ pub data Answer (A : Type 0) : Type 0 where
 abbrev pub weigh : {A : Type 0} → Bool → ℕ → Answer A → Answer A
 weigh true n rest = rest
 weigh false n rest = refused n
+
+-- What was found so far, or the new one where that is preferred; a refusal is passed over.
+abbrev pub choose : {A : Type 0} → (A → A → Bool) → Answer A → Answer A → Answer A
+choose preferred a (refused n) = a
+choose preferred (refused n) (figures y) = figures y
+choose preferred (figures x) (figures y) = cond (preferred y x) (figures y) (figures x)

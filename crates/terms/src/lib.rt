@@ -36,6 +36,12 @@ pub struct Bucket {
     pub depth: Depth,
 }
 
+// A bucket of a plan and the length of its run.
+pub struct BucketRecord {
+    pub periods: u32,
+    pub bucket: Bucket,
+}
+
 // The seven figures of a tariff; the factor holds two of them.
 pub struct Tariff {
     pub rate_price: RatePrice,

@@ -1,0 +1,57 @@
+-- Periods cut into runs, with a choice for each run, whatever it is that is wins (01, "Series"). What a choice x is good
+-- for is its run's length, `periods x`, and its price, `price x`.
+-- Assumes nothing.
+use Prim.Native.Nat.{ℕ, zero, suc, _+_, _≤_}
+use mathlib.Core.Bool.{Bool, true, false}
+use mathlib.Core.List.{List, [], _∷_}
+use lib.ListN.{length, take, drop, getD}
+use Rattle.terms.specs.Answer.{Answer, figures, refused, choose}
+use Rattle.single.specs.Preference.{smaller}
+
+-- x is a choice for the first run of the periods: the run has one or more of them, and x fits it.
+pub record FirstRun {X : Type 0} (periods : X → ℕ) (Fits : List ℕ → X → Type 0) (ds : List ℕ) (x : X) : Type 0 where
+  pub some : 1 ≤ periods x
+  pub inside : periods x ≤ length ds
+  pub fits : Fits (take (periods x) ds) x
+
+-- The runs make up the periods in their order, and each choice fits its run.
+pub data Cuts {X : Type 0} (periods : X → ℕ) (Fits : List ℕ → X → Type 0) : List ℕ → List X → Type 0 where
+  none : Cuts periods Fits [] []
+  run : {ds : List ℕ} {x : X} {xs : List X} → FirstRun periods Fits ds x → Cuts periods Fits (drop (periods x) ds) xs → Cuts periods Fits ds (x ∷ xs)
+
+-- What all runs cost.
+unfoldable pub total : {X : Type 0} → (X → ℕ) → List X → ℕ
+total price [] = 0
+total price (x ∷ xs) = price x + total price xs
+
+-- The longer first run, then the longer second run, and so on.
+unfoldable pub longer : {X : Type 0} → (X → ℕ) → List X → List X → Bool
+longer periods [] ys = false
+longer periods (x ∷ xs) [] = true
+longer periods (x ∷ xs) (y ∷ ys) = smaller (periods y) (periods x) (longer periods xs ys)
+
+-- xs wins over ys: less cost, then fewer runs, then the longer first run, the longer second and so on.
+unfoldable pub wins : {X : Type 0} → (X → ℕ) → (X → ℕ) → List X → List X → Bool
+wins periods price xs ys = smaller (total price xs) (total price ys) (smaller (length xs) (length ys) (longer periods xs ys))
+
+-- A run and what follows it, where there is something for both.
+abbrev pub joined : {X : Type 0} → Answer X → Answer (List X) → Answer (List X)
+joined (figures x) (figures xs) = figures (x ∷ xs)
+joined (figures x) (refused n) = refused n
+joined (refused n) rest = refused n
+
+module _ {X : Type 0} (periods price : X → ℕ) (offer : List ℕ → Answer X) where
+  -- The best of the cuttings that begin with a run of 1, 2, .. or k periods. What follows the run is in the list `rests`: the
+  -- best for what is left after 1, 2, .. periods.
+  unfoldable pub bestFirst : List ℕ → List (Answer (List X)) → ℕ → Answer (List X)
+  bestFirst ds rests zero = refused 7
+  bestFirst ds rests (suc k) = choose (wins periods price) (bestFirst ds rests k) (joined (offer (take (suc k) ds)) (getD rests k (refused 7)))
+
+  -- The best cutting of the periods, and of what is left after 1, 2, .. and all of them.
+  unfoldable pub bests : List ℕ → List (Answer (List X))
+  bests [] = figures [] ∷ []
+  bests (d ∷ ds) = let rests = bests ds in bestFirst (d ∷ ds) rests (length (d ∷ ds)) ∷ rests
+
+  -- The best cutting of the periods.
+  abbrev pub best : List ℕ → Answer (List X)
+  best ds = getD (bests ds) 0 (refused 7)

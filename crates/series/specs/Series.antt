@@ -1,0 +1,87 @@
+-- The cheapest cutting of a trace into runs with a bucket each (01, "Series"; refusals 3, 5, 6 and 7).
+-- The search goes from the end of the trace to its start. That no carried cutting does better, whatever its runs and its
+-- buckets, is a law (`SeriesLaws.series-best`).
+-- Assumes nothing.
+use Prim.Native.Nat.{ℕ, min}
+use mathlib.Core.Bool.{Bool}
+use mathlib.Core.List.{List, map, _++_}
+use lib.Dec.{leb}
+use lib.ListN.{length, drop}
+use Rattle.terms.specs.declared.BucketRecord.{BucketRecord}
+use Rattle.terms.specs.declared.Tariff.{Tariff}
+use Rattle.terms.specs.Answer.{Answer, figures, refused, weigh}
+use Rattle.terms.specs.Refusals.{numberOf}
+use Rattle.terms.specs.Ranges.{periodsOk, tariffOk}
+use Rattle.single.specs.declared.costs.Priced.{Priced}
+use Rattle.single.specs.Cost.{costOf}
+use Rattle.single.specs.Single.{Serves, cheapestOf}
+use Rattle.series.specs.declared.plans.Plan.{Plan}
+use Rattle.series.specs.declared.plans.SeriesAnswer.{SeriesAnswer}
+use Rattle.series.specs.declared.plans.SeriesAnswer.the-variants.{Found, Refused}
+use Rattle.series.specs.Cutting.{Cuts, total, wins, best}
+
+-- A cutting, document 01's term: for each run, first to last, its length, rate and depth.
+abbrev pub Cutting : Type 0
+Cutting = List BucketRecord
+
+abbrev pub runLength : BucketRecord → ℕ
+runLength x = x .periods
+
+abbrev pub runRate : BucketRecord → ℕ
+runRate x = x .bucket .rate .0
+
+abbrev pub runDepth : BucketRecord → ℕ
+runDepth x = x .bucket .depth .0
+
+-- A run is billed for its exact length, with its own fee.
+abbrev pub runCost : Tariff → BucketRecord → ℕ
+runCost t x = costOf t (x .periods) (x .bucket)
+
+-- True cost, document 01's term.
+abbrev pub trueCost : Tariff → Cutting → ℕ
+trueCost t = total (runCost t)
+
+-- Carried, document 01's term: the runs make up the trace, and each bucket is inside the caps and, fresh, carries its run.
+abbrev pub Carried : Tariff → List ℕ → Cutting → Type 0
+Carried t = Cuts runLength (λ run x. Serves t run (x .bucket))
+
+-- xs is chosen before ys: the least cost; then fewer buckets; then the longer first run, the longer second and so on.
+abbrev pub preferred : Tariff → Cutting → Cutting → Bool
+preferred t = wins runLength (runCost t)
+
+-- The record of a run of n periods with the bucket found for it.
+abbrev pub recordOf : ℕ → Answer Priced → Answer BucketRecord
+recordOf n (figures x) = figures (record { periods = n; bucket = x .bucket })
+recordOf n (refused m) = refused m
+
+-- Each bucket is the single answer for its run.
+abbrev pub runRecord : Tariff → List ℕ → Answer BucketRecord
+runRecord t run = recordOf (length run) (cheapestOf t run)
+
+-- The best cutting of a trace.
+abbrev pub cheapestCut : Tariff → List ℕ → Answer Cutting
+cheapestCut t = best runLength (runCost t) (runRecord t)
+
+-- 3: the trace's length; 5: the tariff; 6: lent lists with less room than periods; 7: no cutting.
+unfoldable pub seriesOf : Tariff → ℕ → List ℕ → Answer Cutting
+seriesOf t room ds = weigh (periodsOk (length ds)) 3 (weigh (tariffOk t) 5 (weigh (leb (length ds) room) 6 (cheapestCut t ds)))
+
+-- The figures that are answered: the number of buckets and the cost.
+abbrev pub planOf : Tariff → Answer Cutting → Answer Plan
+planOf t (figures xs) = figures (record { buckets = length xs; cost = trueCost t xs })
+planOf t (refused n) = refused n
+
+-- What a lent list of one figure of each record holds afterwards: the records fill its front in order, and what lies after
+-- them, and everything on a refusal, is as it was.
+abbrev pub recorded : (BucketRecord → ℕ) → Answer Cutting → List ℕ → List ℕ
+recorded figure (figures xs) old = map figure xs ++ drop (length xs) old
+recorded figure (refused n) old = old
+
+-- The room of three lent lists: the entries of the shortest.
+abbrev pub roomOf : List ℕ → List ℕ → List ℕ → ℕ
+roomOf xs ys zs = min (length xs) (min (length ys) (length zs))
+
+-- Each case of the answer in document 01's values and numbers.
+abbrev pub seriesSays : SeriesAnswer → Answer Plan
+seriesSays (Found x) = figures x
+seriesSays (Refused x) = refused (numberOf x)

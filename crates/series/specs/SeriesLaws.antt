@@ -1,0 +1,79 @@
+-- The series answer is the least over all cuttings: it is carried, its cost is its true cost, no carried cutting costs less,
+-- the same runs with other buckets included, and none of equal cost is preferred; and refusal 7 is given exactly when no
+-- cutting is carried.
+-- Assumes nothing.
+use Prim.Native.Nat.{ℕ, _≤_}
+use native.Mathlib.Omega.{arith}
+use mathlib.Core.Path.{_≡_, refl, sym, ap, subst, _∙_}
+use mathlib.Core.Bool.{true, false}
+use mathlib.Core.List.{List}
+use lib.Dec.{leb}
+use lib.ListN.{length}
+use Rattle.terms.specs.declared.BucketRecord.{BucketRecord}
+use Rattle.terms.specs.declared.Tariff.{Tariff}
+use Rattle.terms.specs.Answer.{Answer, figures, refused, weigh}
+use Rattle.terms.specs.Ranges.{periodsOk, tariffOk}
+use Rattle.terms.specs.AnswerLaws.{weigh-figures, weigh-refused}
+use Rattle.single.specs.declared.costs.Priced.{Priced}
+use Rattle.single.specs.Cost.{costOf}
+use Rattle.single.specs.Single.{Serves, cheapestOf}
+use Rattle.single.specs.SingleLaws.{IsSingle, cheapest-is, cheapest-least}
+use Rattle.series.specs.CuttingLaws.{BestOf, IsBest, IsOffer, not-wins-cost, bests-are}
+use Rattle.series.specs.Series.{Cutting, runLength, runCost, trueCost, Carried, preferred, recordOf, runRecord, cheapestCut, seriesOf}
+
+module _ (t : Tariff) where
+  -- The single bucket is the cheapest choice for its run.
+  offered : (ds : List ℕ) (a : Answer Priced) → IsSingle t ds a → IsOffer runLength (runCost t) (λ run x. Serves t run (x .bucket)) ds (recordOf (length ds) a)
+  offered ds (figures x) k =
+      record {
+        whole = refl;
+        fits = k .serves;
+        least = λ y e s.
+            subst (λ (c : ℕ). c ≤ runCost t y) (k .paid) (subst (λ (n : ℕ). x .cost ≤ costOf t n (y .bucket)) (sym e) (cheapest-least t ds k (y .bucket) s));
+      }
+  offered ds (refused n) k = (k .0, λ y s. k .1 (y .bucket) s)
+
+  -- xs is the series answer: it is carried, and no carried cutting is preferred.
+  abbrev pub Best : List ℕ → Cutting → Type 0
+  Best ds = BestOf runLength (runCost t) (Carried t ds)
+
+  abbrev pub NoCutting : List ℕ → Type 0
+  NoCutting ds = (xs : Cutting) → Carried t ds xs → ⊥
+
+  abbrev pub IsSeries : List ℕ → Answer Cutting → Type 0
+  IsSeries ds = IsBest runLength (runCost t) (Carried t ds)
+
+  module _ (ds : List ℕ) where
+    pub series-is : IsSeries ds (cheapestCut t ds)
+    series-is = bests-are runLength (runCost t) (λ run x. Serves t run (x .bucket)) (runRecord t) (λ run. offered run (cheapestOf t run) (cheapest-is t run)) ds 0 (omega arith)
+
+    -- No other carried cutting costs less.
+    pub best-cost : {xs : Cutting} → Best ds xs → (ys : Cutting) → Carried t ds ys → trueCost t xs ≤ trueCost t ys
+    best-cost {xs} b ys c = not-wins-cost runLength (runCost t) xs ys (b .none-wins ys c)
+
+    -- ---- The call
+
+    module _ (room : ℕ) where
+      -- Figures are the best cutting.
+      pub series-best : {xs : Cutting} → seriesOf t room ds ≡ figures xs → Best ds xs
+      unfolding seriesOf
+      series-best e =
+          let h = weigh-figures (periodsOk (length ds)) 3 (weigh (tariffOk t) 5 (weigh (leb (length ds) room) 6 (cheapestCut t ds))) e .1 in
+          let k = weigh-figures (tariffOk t) 5 (weigh (leb (length ds) room) 6 (cheapestCut t ds)) h .1 in
+          subst (IsSeries ds) (weigh-figures (leb (length ds) room) 6 (cheapestCut t ds) k .1) series-is
+
+      -- Refusal 7 is given exactly when no cutting of a trace in range is carried.
+      pub series-none : seriesOf t room ds ≡ refused 7 → NoCutting ds
+      unfolding seriesOf
+      series-none e =
+          let h = weigh-refused (periodsOk (length ds)) 3 7 (weigh (tariffOk t) 5 (weigh (leb (length ds) room) 6 (cheapestCut t ds))) refl e .1 in
+          let k = weigh-refused (tariffOk t) 5 7 (weigh (leb (length ds) room) 6 (cheapestCut t ds)) refl h .1 in
+          subst (IsSeries ds) (weigh-refused (leb (length ds) room) 6 7 (cheapestCut t ds) refl k .1) series-is .1
+
+      pub none-series : periodsOk (length ds) ≡ true → tariffOk t ≡ true → leb (length ds) room ≡ true → NoCutting ds → seriesOf t room ds ≡ refused 7
+      unfolding seriesOf
+      none-series h k l none = rw (h, k, l) (go (cheapestCut t ds) series-is)
+        where
+          go : (a : Answer Cutting) → IsSeries ds a → a ≡ refused 7
+          go (figures xs) i = absurd (none xs (i .kind))
+          go (refused n) i = ap refused (i .0)

@@ -1,0 +1,5 @@
+// The cheapest cutting of a trace into runs with a bucket each.
+mod plans;
+
+pub use plans::Plan;
+pub use plans::SeriesAnswer;
