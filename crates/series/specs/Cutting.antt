@@ -34,6 +34,11 @@ longer periods (x ∷ xs) (y ∷ ys) = smaller (periods y) (periods x) (longer p
 unfoldable pub wins : {X : Type 0} → (X → ℕ) → (X → ℕ) → List X → List X → Bool
 wins periods price xs ys = smaller (total price xs) (total price ys) (smaller (length xs) (length ys) (longer periods xs ys))
 
+-- The length of the first run; of no run 0.
+abbrev pub firstRun : {X : Type 0} → (X → ℕ) → List X → ℕ
+firstRun periods [] = 0
+firstRun periods (x ∷ xs) = periods x
+
 -- A run and what follows it, where there is something for both.
 abbrev pub joined : {X : Type 0} → Answer X → Answer (List X) → Answer (List X)
 joined (figures x) (figures xs) = figures (x ∷ xs)

@@ -16,7 +16,7 @@ use lib.Seq.{length-take-le}
 use Rattle.terms.specs.Answer.{Answer, figures, refused, choose}
 use Rattle.single.specs.Preference.{smaller}
 use Rattle.single.specs.PreferenceLaws.{not-smaller, smaller-not, smaller-trans, smaller-asym}
-use Rattle.series.specs.Cutting.{FirstRun, Cuts, none, run, total, longer, wins, joined, bestFirst, bests}
+use Rattle.series.specs.Cutting.{FirstRun, Cuts, none, run, total, longer, wins, firstRun, joined, bestFirst, bests}
 
 -- ---- The order of cuttings
 
@@ -96,11 +96,6 @@ module _ {X : Type 0} (periods price : X → ℕ) where
             }
 
 -- ---- The best cutting
-
--- The length of the first run.
-abbrev pub firstRun : {X : Type 0} → (X → ℕ) → List X → ℕ
-firstRun periods [] = 0
-firstRun periods (x ∷ xs) = periods x
 
 module _ {X : Type 0} (periods price : X → ℕ) (Fits : List ℕ → X → Type 0) where
   abbrev Cut : List ℕ → List X → Type 0

@@ -1,5 +1,8 @@
 -- The definitions that contracts cite, in reading order, and their laws.
 pub mod Cutting
 pub mod Series
+pub mod Outline
 pub mod CuttingLaws
 pub mod SeriesLaws
+pub mod OutlineRanges
+pub mod PriceLaws

@@ -1,4 +1,5 @@
 // The cheapest cutting of a trace into runs with a bucket each.
+mod outlines;
 mod plans;
 
 pub use plans::Plan;

@@ -3,13 +3,13 @@
 -- Assumes nothing.
 use Prim.Native.Nat.{ℕ, zero, suc, _+_, _-_, _≤_, _<_, min}
 use native.Mathlib.Omega.{arith}
-use native.Mathlib.Nat.{le-trans, lt-of-lt-of-le, le-max-left, le-max-right, min-eq-left, add-zero}
+use native.Mathlib.Nat.{le-refl, le-trans, le-antisymm, lt-of-lt-of-le, le-max-left, le-max-right, add-zero}
 use mathlib.Core.Path.{_≡_, refl, sym, ap, _∙_}
 use mathlib.Core.Bool.{Bool, true, false, false≢true}
 use mathlib.Core.List.{List, [], _∷_}
 use borrow.Author.Tests.{eq-eqb, leb-true, leb-false, ltb-true}
 use lib.Dec.{leb}
-use lib.ListN.{length}
+use lib.ListN.{length, take}
 use Rattle.terms.specs.declared.Tariff.{Tariff}
 use Rattle.terms.specs.Answer.{Answer, figures, refused}
 use Rattle.terms.specs.Bools.{both-and}
@@ -65,20 +65,36 @@ module _ (t : Tariff) (ds : List ℕ) where
   zero-depth : At t ds (greatest ds) 0
   zero-depth = record { inside = omega arith; carried = greatest-carries (greatest ds) 0 _ ds (omega arith) }
 
-  above-none : (a : Answer Priced) → a ≡ bestOf t ds (greatest ds + 1) → IsBest t ds (greatest ds + 1) a → greatest ds + 1 ≤ candidates t → a ≡ cheapestOf t ds
-  above-none (refused n) e k l = absurd (k .1 (greatest ds) (omega arith) 0 zero-depth)
-  above-none (figures x) e k l =
-      weighed-all (greatest ds + 1) x e
+  above-none : (a : Answer Priced) → a ≡ bestOf t ds (greatest ds + 1) → IsBest t ds (greatest ds + 1) a → (m : ℕ) → bestOf t ds (greatest ds + 1 + m) ≡ a
+  above-none (refused n) e k m = absurd (k .1 (greatest ds) (omega arith) 0 zero-depth)
+  above-none (figures x) e k m =
+      sym (weighed-on (greatest ds + 1) x e
       (λ r m B s. not-preferred-trans x _ _ (k .none-before (greatest ds) (omega arith) 0 zero-depth) (larger-not-preferred t (length ds) (bucketOf (greatest ds) 0) (bucketOf r B) (omega arith) (omega arith)))
-      l
+      m)
 
-  -- No rate above the greatest demand need be weighed.
-  pub weighed-enough : bestOf t ds (weighed t ds) ≡ cheapestOf t ds
-  weighed-enough = go (leb (t .«rate_cap» .0) (greatest ds)) refl
+  -- No rate above the greatest demand need be weighed, and to weigh some of them does no harm.
+  pub weighed-more : (k : ℕ) → weighed t ds ≤ k → k ≤ candidates t → bestOf t ds k ≡ cheapestOf t ds
+  weighed-more k l m = go (leb (t .«rate_cap» .0) (greatest ds)) refl
     where
-      go : (b : Bool) → leb (t .«rate_cap» .0) (greatest ds) ≡ b → bestOf t ds (weighed t ds) ≡ cheapestOf t ds
-      go true h = rw (min-eq-left (leb-true (t .«rate_cap» .0) (greatest ds) h))
+      go : (b : Bool) → leb (t .«rate_cap» .0) (greatest ds) ≡ b → bestOf t ds k ≡ cheapestOf t ds
+      go true h =
+          let c : t .«rate_cap» .0 ≤ greatest ds = leb-true _ _ h in
+          ap (bestOf t ds) (le-antisymm m (omega arith))
       go false h =
-          let l : greatest ds < t .«rate_cap» .0 = leb-false _ _ h in
-          let m : min (t .«rate_cap» .0) (greatest ds) ≡ greatest ds = omega arith in
-          rw m (above-none (bestOf t ds (greatest ds + 1)) refl (best-is t ds (greatest ds + 1)) (omega arith))
+          let c : greatest ds < t .«rate_cap» .0 = leb-false _ _ h in
+          let from : (j : ℕ) → greatest ds + 1 ≤ j → bestOf t ds j ≡ bestOf t ds (greatest ds + 1) = λ j i.
+              ap (bestOf t ds) (omega arith) ∙ above-none (bestOf t ds (greatest ds + 1)) refl (best-is t ds (greatest ds + 1)) (j - (greatest ds + 1)) in
+          from k (omega arith) ∙ sym (from (candidates t) (omega arith))
+
+  pub weighed-enough : bestOf t ds (weighed t ds) ≡ cheapestOf t ds
+  weighed-enough = weighed-more (weighed t ds) (le-refl _) (omega arith)
+
+-- What has to be weighed for a trace is enough for each run at its front.
+greatest-take : (n : ℕ) (ds : List ℕ) → greatest (take n ds) ≤ greatest ds
+unfolding greatest
+greatest-take zero ds = omega arith
+greatest-take (suc n) [] = omega arith
+greatest-take (suc n) (d ∷ ds) = omega (arith, greatest-take n ds)
+
+pub weighed-front : (t : Tariff) (n : ℕ) (ds : List ℕ) → bestOf t (take n ds) (weighed t ds) ≡ cheapestOf t (take n ds)
+weighed-front t n ds = weighed-more t (take n ds) (weighed t ds) (omega (arith, greatest-take n ds)) (omega arith)
