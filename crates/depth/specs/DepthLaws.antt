@@ -13,7 +13,7 @@ use lib.ListN.{length}
 use Rattle.terms.specs.declared.Tariff.{Tariff}
 use Rattle.terms.specs.Ranges.{periodsOk}
 use Rattle.terms.specs.Answer.{Answer, figures, refused, weigh}
-use Rattle.terms.specs.AnswerLaws.{weigh-figures, weigh-refused}
+use Rattle.terms.specs.AnswerLaws.{figures-refused, same-figures, weigh-figures, weigh-refused}
 use Rattle.terms.specs.Bools.{and-both, both-and, not-true-false}
 use Rattle.bucket.specs.Step.{startOf}
 use Rattle.bucket.specs.Trace.{carries}
@@ -111,6 +111,18 @@ module _ (p q cap r : ℕ) (ds : List ℕ) (hp : p ≤ q) (hq : 1 ≤ q) where
 
   pub depth-walk : depthFrom p q cap (walkOf r ds) ≡ leastDepth p q cap r ds
   depth-walk = first-only (λ C. carries p q r C ds) cap _ _ (walk-is (walkOf r ds) refl) (depth-is p q cap r ds)
+
+-- What is read off any walk is inside the cap.
+pub walk-within : (p q cap : ℕ) (w : Walk) {B : ℕ} → 1 ≤ q → depthFrom p q cap w ≡ figures B → B ≤ cap
+unfolding depthFrom
+walk-within p q cap w {B} hq e = go (capMeets p q cap w) refl e
+  where
+    go : (t : Bool) → capMeets p q cap w ≡ t → cond t (figures (max (w .stretch) (ceiling (w .opening * q) p))) (refused 7) ≡ figures B → B ≤ cap
+    go true h e =
+        let k = and-both (leb (w .stretch) cap) (leb (w .opening * q) (p * cap)) h in
+        subst (λ (C : ℕ). C ≤ cap) (same-figures e)
+        (max-le (leb-true _ _ (k .0)) (start-ceiling p q (w .opening) hq cap (holds-start p q (w .opening) cap hq (leb-true _ _ (k .1)))))
+    go false h e = absurd (figures-refused (sym e))
 
 -- Of a trace with one more period at its end, one push more gives it.
 pub depth-more : (p q cap r : ℕ) (ds : List ℕ) (d : ℕ) → p ≤ q → 1 ≤ q → depthFrom p q cap (pushed r (walkOf r ds) d) ≡ leastDepth p q cap r (ds ++ (d ∷ []))

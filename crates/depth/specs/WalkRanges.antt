@@ -4,10 +4,11 @@ use Prim.Native.Nat.{ℕ, suc, _+_, _*_, _≤_}
 use native.Mathlib.Omega.{arith}
 use native.Mathlib.Nat.{max-le}
 use mathlib.Core.List.{List, [], _∷_, foldl}
-use lib.ListN.{length}
+use lib.ListN.{length, take}
+use lib.Seq.{length-take-le}
 use Rattle.terms.specs.Limits.{demandLimit, rateLimit}
 use Rattle.bucket.specs.Trace.{Demands}
-use Rattle.bucket.specs.Laws.{demands-tail}
+use Rattle.bucket.specs.Laws.{demands-tail, demands-take}
 use Rattle.depth.specs.declared.walk.Walk.{Walk}
 use Rattle.depth.specs.Walk.{started, pushed, walkOf}
 
@@ -43,3 +44,7 @@ range-on r (d ∷ ds) hr h k = range-more (omega arith) (range-on r ds hr (deman
 pub walk-range : (r : ℕ) (ds : List ℕ) → r ≤ rateLimit → Demands ds → WalkRange (length ds) (walkOf r ds)
 unfolding walkOf
 walk-range r ds hr h = range-more (omega arith) (range-on r ds hr h range-started)
+
+-- … and of the first n periods of a trace.
+pub walk-range-take : (r n : ℕ) (ds : List ℕ) → r ≤ rateLimit → Demands ds → n ≤ length ds → WalkRange n (walkOf r (take n ds))
+walk-range-take r n ds hr h l = range-more (omega (arith, length-take-le n ds l)) (walk-range r (take n ds) hr (demands-take n ds h))

@@ -5,14 +5,13 @@ use mathlib.Core.Path.{_≡_, sym, ap, _∙_}
 use mathlib.Core.List.{List}
 use borrow.Author.Needs.{needs}
 use lib.ListN.{length, getD, take}
-use lib.Seq.{take-all, length-take-le}
+use lib.Seq.{take-all}
 use Rattle.terms.specs.Limits.{rateLimit, traceLimit}
 use Rattle.bucket.specs.Trace.{Demands}
-use Rattle.bucket.specs.Laws.{demands-take}
 use Rattle.depth.specs.declared.walk.Walk.{Walk}
 use Rattle.depth.specs.Walk.{started, pushed, walkOf}
 use Rattle.depth.specs.WalkLaws.{walk-next}
-use Rattle.depth.specs.WalkRanges.{WalkRange, walk-range, range-more}
+use Rattle.depth.specs.WalkRanges.{WalkRange, walk-range-take, range-more}
 use Rattle.depth.proofs.depths.walked.Statement.{statement}
 use Rattle.depth.proofs.depths.walked.Tie as tie
 
@@ -26,7 +25,7 @@ start r ds w e = record { inside = omega arith; so-far = e }
 
 module _ {r : ℕ} {ds : List ℕ} {w : Walk} {i : ℕ} (k : Walking r ds w i) where
   room : r ≤ rateLimit → Demands ds → length ds ≤ traceLimit → i < length ds → WalkRange (traceLimit - 1) w
-  room hr h n l = rw (k .so-far) (range-more (omega (arith, length-take-le i ds (k .inside))) (walk-range r (take i ds) hr (demands-take i ds h)))
+  room hr h n l = rw (k .so-far) (range-more (omega arith) (walk-range-take r i ds hr h (k .inside)))
 
   step : (v : Walk) → i < length ds → v ≡ pushed r w (getD ds i 0) → Walking r ds v (i + 1)
   step v l e = record { inside = omega arith; so-far = e ∙ ap (λ (x : Walk). pushed r x (getD ds i 0)) (k .so-far) ∙ sym (walk-next r ds i l) }
