@@ -3,7 +3,7 @@
 -- Assumes nothing.
 use Prim.Native.Nat.{ℕ, zero, suc, _+_, _-_, _≤_, _<_, min}
 use native.Mathlib.Omega.{arith}
-use native.Mathlib.Nat.{le-refl, le-trans, le-antisymm, lt-of-lt-of-le, le-max-left, le-max-right, add-zero}
+use native.Mathlib.Nat.{le-refl, le-trans, le-antisymm, lt-of-lt-of-le, le-max-left, le-max-right, min-le-left, add-zero}
 use mathlib.Core.Path.{_≡_, refl, sym, ap, _∙_}
 use mathlib.Core.Bool.{Bool, true, false, false≢true}
 use mathlib.Core.List.{List, [], _∷_}
@@ -88,6 +88,10 @@ module _ (t : Tariff) (ds : List ℕ) where
 
   pub weighed-enough : bestOf t ds (weighed t ds) ≡ cheapestOf t ds
   weighed-enough = weighed-more (weighed t ds) (le-refl _) (omega arith)
+
+-- Only rates up to the cap are weighed.
+pub inside-cap : (t : Tariff) (ds : List ℕ) (end k : ℕ) → end ≡ weighed t ds → k < end → k ≤ t .«rate_cap» .0
+inside-cap t ds end k e l = omega (arith, min-le-left (t .«rate_cap» .0) (greatest ds))
 
 -- What has to be weighed for a trace is enough for each run at its front.
 greatest-take : (n : ℕ) (ds : List ℕ) → greatest (take n ds) ≤ greatest ds

@@ -2,7 +2,7 @@
 -- rates left cost more than what is found, even at depth 0, they never are either.
 use Prim.Native.Nat.{ℕ, _+_, _-_, _≤_, _<_}
 use native.Mathlib.Omega.{arith}
-use native.Mathlib.Nat.{le-antisymm, le-trans, min-le-left}
+use native.Mathlib.Nat.{le-antisymm, le-trans}
 use mathlib.Core.Path.{_≡_, refl, sym, ap, _∙_}
 use mathlib.Core.List.{List}
 use borrow.Author.Needs.{needs}
@@ -18,10 +18,10 @@ use Rattle.depth.specs.DepthLaws.{depth-in-range, depth-within}
 use Rattle.single.specs.declared.costs.Priced.{Priced}
 use Rattle.single.specs.declared.singles.SingleAnswer.{SingleAnswer}
 use Rattle.single.specs.declared.singles.SingleAnswer.the-variants.{Refused}
-use Rattle.single.specs.Rates.{greatest, weighed, dearer}
+use Rattle.single.specs.Rates.{weighed, dearer}
 use Rattle.single.specs.Single.{better, bestOf, singleSays}
 use Rattle.single.specs.BestLaws.{best-next}
-use Rattle.single.specs.RateLaws.{weighed-enough, dearer-enough}
+use Rattle.single.specs.RateLaws.{inside-cap, weighed-enough, dearer-enough}
 use Rattle.single.proofs.singles.cheapest.Statement.{statement}
 use Rattle.single.proofs.singles.cheapest.Tie as tie
 
@@ -32,10 +32,6 @@ record Weighing (t : Tariff) (ds : List ℕ) (end : ℕ) (best : SingleAnswer) (
 start : (t : Tariff) (ds : List ℕ) (end : ℕ) → Weighing t ds end (Refused NoPlan) 0
 unfolding bestOf
 start t ds end = record { inside = omega arith; so-far = refl }
-
--- Only rates up to the cap are weighed.
-inside-cap : (t : Tariff) (ds : List ℕ) (end k : ℕ) → end ≡ weighed t ds → k < end → k ≤ t .«rate_cap» .0
-inside-cap t ds end k e l = omega (arith, min-le-left (t .«rate_cap» .0) (greatest ds))
 
 in-range : (t : Tariff) (ds : List ℕ) (k : ℕ) → PeriodsRange (length ds) → TariffRange t → k ≤ t .«rate_cap» .0 → depthOf t k ds ≡ tariffDepth t k ds
 in-range t ds k n h l = depth-in-range t k ds (periods-ok _ n) (both-and (tariff-ok t h) (le-leb _ _ l))
