@@ -98,7 +98,7 @@ module _ {X : Type 0} (periods price : X → ℕ) where
 -- ---- The best cutting
 
 module _ {X : Type 0} (periods price : X → ℕ) (Fits : List ℕ → X → Type 0) where
-  abbrev Cut : List ℕ → List X → Type 0
+  abbrev pub Cut : List ℕ → List X → Type 0
   Cut = Cuts periods Fits
 
   pub cut-first : {ds : List ℕ} {x : X} {xs : List X} → Cut ds (x ∷ xs) → FirstRun periods Fits ds x × Cut (drop (periods x) ds) xs
@@ -122,10 +122,10 @@ module _ {X : Type 0} (periods price : X → ℕ) (Fits : List ℕ → X → Typ
     cut : Cut ds xs
     first : firstRun periods xs ≡ n
 
-  record Within (ds : List ℕ) (n : ℕ) (xs : List X) : Type 0 where
-    cut : Cut ds xs
-    some : 1 ≤ firstRun periods xs
-    first : firstRun periods xs ≤ n
+  pub record Within (ds : List ℕ) (n : ℕ) (xs : List X) : Type 0 where
+    pub cut : Cut ds xs
+    pub some : 1 ≤ firstRun periods xs
+    pub first : firstRun periods xs ≤ n
 
   module _ (ds : List ℕ) (k : ℕ) (l : suc k ≤ length ds) where
     -- A choice for the run and a cutting of the rest.
@@ -181,11 +181,11 @@ module _ {X : Type 0} (periods price : X → ℕ) (Fits : List ℕ → X → Typ
         go false e = inr (record { cut = w .cut; first = le-antisymm (w .first) (leb-false _ _ e) })
 
   -- What is known of the list of rests: each is the best for what is left.
-  abbrev Rests : List ℕ → List (Answer (List X)) → Type 0
+  abbrev pub Rests : List ℕ → List (Answer (List X)) → Type 0
   Rests ds rests = (k : ℕ) → suc k ≤ length ds → IsBest periods price (Cut (drop (suc k) ds)) (getD rests k (refused 7))
 
   module _ (offer : List ℕ → Answer X) (offers : (ds : List ℕ) → IsOffer ds (offer ds)) where
-    first-is : (ds : List ℕ) (rests : List (Answer (List X))) → Rests ds rests → (k : ℕ) → k ≤ length ds
+    pub first-is : (ds : List ℕ) (rests : List (Answer (List X))) → Rests ds rests → (k : ℕ) → k ≤ length ds
         → IsBest periods price (Within ds k) (bestFirst periods price offer ds rests k)
     unfolding bestFirst
     first-is ds rests h zero l = (refl, λ xs w. omega (arith, w .some, w .first))

@@ -3,6 +3,8 @@ pub mod Cutting
 pub mod Series
 pub mod Outline
 pub mod CuttingLaws
+pub mod RunLaws
 pub mod SeriesLaws
 pub mod OutlineRanges
 pub mod PriceLaws
+pub mod OutlineLaws

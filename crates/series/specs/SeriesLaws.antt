@@ -33,6 +33,9 @@ module _ (t : Tariff) where
       }
   offered ds (refused n) k = (k .0, λ y s. k .1 (y .bucket) s)
 
+  pub run-offered : (run : List ℕ) → IsOffer runLength (runCost t) (λ run x. Serves t run (x .bucket)) run (runRecord t run)
+  run-offered run = offered run (cheapestOf t run) (cheapest-is t run)
+
   -- xs is the series answer: it is carried, and no carried cutting is preferred.
   abbrev pub Best : List ℕ → Cutting → Type 0
   Best ds = BestOf runLength (runCost t) (Carried t ds)
@@ -45,7 +48,7 @@ module _ (t : Tariff) where
 
   module _ (ds : List ℕ) where
     pub series-is : IsSeries ds (cheapestCut t ds)
-    series-is = bests-are runLength (runCost t) (λ run x. Serves t run (x .bucket)) (runRecord t) (λ run. offered run (cheapestOf t run) (cheapest-is t run)) ds 0 (omega arith)
+    series-is = bests-are runLength (runCost t) (λ run x. Serves t run (x .bucket)) (runRecord t) run-offered ds 0 (omega arith)
 
     -- No other carried cutting costs less.
     pub best-cost : {xs : Cutting} → Best ds xs → (ys : Cutting) → Carried t ds ys → trueCost t xs ≤ trueCost t ys

@@ -1,0 +1,103 @@
+-- How the best cutting is put together: its first run's choice is that run's offer, and it goes on with the best cutting of
+-- what is left.
+-- Assumes nothing.
+use Prim.Native.Nat.{ℕ, zero, suc, _+_, _≤_, _<_}
+use native.Mathlib.Omega.{arith}
+use mathlib.Core.Path.{_≡_, refl, sym, ap, subst, _∙_}
+use mathlib.Core.Bool.{Bool, true, false, cond}
+use mathlib.Core.List.{List, [], _∷_, nil≢cons, head-eq-of-cons-eq, tail-eq-of-cons-eq}
+use mathlib.Core.Logic.{_⊎_, inl, inr, ⊎-elim}
+use lib.ListN.{length, take, drop, getD}
+use lib.Seq.{length-take-le, drop-cons}
+use Rattle.terms.specs.Answer.{Answer, figures, refused, choose}
+use Rattle.terms.specs.AnswerLaws.{figures-refused, same-figures}
+use Rattle.series.specs.Cutting.{Cuts, none, run, FirstRun, firstRun, wins, joined, bestFirst, bests, best}
+
+choose-either : {A : Type 0} (preferred : A → A → Bool) (a b : Answer A) {x : A} → choose preferred a b ≡ figures x → (a ≡ figures x) ⊎ (b ≡ figures x)
+choose-either preferred a (refused n) e = inl e
+choose-either preferred (refused m) (figures y) e = inr e
+choose-either preferred (figures z) (figures y) {x} e = go (preferred y z) e
+  where
+    go : (b : Bool) → cond b (figures y) (figures z) ≡ figures x → (figures z ≡ figures x) ⊎ (figures y ≡ figures x)
+    go true e = inr e
+    go false e = inl e
+
+-- A cutting that was joined, and its parts.
+record Parts {X : Type 0} (a : Answer X) (rest : Answer (List X)) (ys : List X) : Type 0 where
+  head : X
+  tail : List X
+  first : a ≡ figures head
+  onward : rest ≡ figures tail
+  all : ys ≡ head ∷ tail
+
+parts : {X : Type 0} (a : Answer X) (rest : Answer (List X)) {ys : List X} → joined a rest ≡ figures ys → Parts a rest ys
+parts (figures x) (figures xs) e = record { head = x; tail = xs; first = refl; onward = refl; all = sym (same-figures e) }
+parts (figures x) (refused n) e = absurd (figures-refused (sym e))
+parts (refused n) rest e = absurd (figures-refused (sym e))
+
+module _ {X : Type 0} (periods price : X → ℕ) (offer : List ℕ → Answer X) where
+  -- The best for what is left after n periods.
+  pub bests-at : (ds : List ℕ) (n : ℕ) → n ≤ length ds → getD (bests periods price offer ds) n (refused 7) ≡ best periods price offer (drop n ds)
+  unfolding bests
+  bests-at ds zero l = refl
+  bests-at [] (suc n) l = absurd (omega arith)
+  bests-at (d ∷ ds) (suc n) l = bests-at ds n (omega arith)
+
+  -- The best from one period on, by the first run.
+  pub best-from : (ds : List ℕ) (n : ℕ) → n < length ds
+      → best periods price offer (drop n ds) ≡ bestFirst periods price offer (drop n ds) (bests periods price offer (drop (suc n) ds)) (length (drop n ds))
+  unfolding bests
+  best-from ds n l = rw (drop-cons ds n 0 l) refl
+
+  -- The choice for some first run, and what follows it.
+  record Choice (ds : List ℕ) (rests : List (Answer (List X))) (k : ℕ) (ys : List X) : Type 0 where
+    length : ℕ
+    inside : suc length ≤ k
+    made : Parts (offer (take (suc length) ds)) (getD rests length (refused 7)) ys
+
+  first-choice : (ds : List ℕ) (rests : List (Answer (List X))) (k : ℕ) {ys : List X} → bestFirst periods price offer ds rests k ≡ figures ys → Choice ds rests k ys
+  unfolding bestFirst
+  first-choice ds rests zero e = absurd (figures-refused (sym e))
+  first-choice ds rests (suc k) e =
+      ⊎-elim (λ f. let c = first-choice ds rests k f in record { length = c .length; inside = omega (arith, c .inside); made = c .made })
+      (λ f. record { length = k; inside = omega arith; made = parts (offer (take (suc k) ds)) (getD rests k (refused 7)) f })
+      (choose-either (wins periods price) (bestFirst periods price offer ds rests k) (joined (offer (take (suc k) ds)) (getD rests k (refused 7))) e)
+
+  module _ (whole : (ds : List ℕ) (x : X) → offer ds ≡ figures x → periods x ≡ length ds) where
+    -- The first run of the best cutting: its length, its choice and what follows it.
+    pub record Runs (ds : List ℕ) (x : X) (xs : List X) : Type 0 where
+      pub some : 1 ≤ periods x
+      pub inside : periods x ≤ length ds
+      pub first : offer (take (periods x) ds) ≡ figures x
+      pub onward : best periods price offer (drop (periods x) ds) ≡ figures xs
+
+    pub best-runs : (ds : List ℕ) (x : X) (xs : List X) → best periods price offer ds ≡ figures (x ∷ xs) → Runs ds x xs
+    unfolding bests
+    best-runs [] x xs e = absurd (nil≢cons (same-figures e))
+    best-runs (d ∷ ds) x xs e =
+        let c = first-choice (d ∷ ds) (bests periods price offer ds) (length (d ∷ ds)) e in
+        let n = suc (c .length) in
+        let x-is : x ≡ c .made .head = head-eq-of-cons-eq (c .made .all) in
+        let xs-is : xs ≡ c .made .tail = tail-eq-of-cons-eq (c .made .all) in
+        let taken : offer (take n (d ∷ ds)) ≡ figures x = c .made .first ∙ ap figures (sym x-is) in
+        let rest : best periods price offer (drop n (d ∷ ds)) ≡ figures xs = sym (bests-at ds (c .length) (omega (arith, c .inside))) ∙ c .made .onward ∙ ap figures (sym xs-is) in
+        let m : n ≡ periods x = sym (whole (take n (d ∷ ds)) x taken ∙ length-take-le n (d ∷ ds) (c .inside)) in
+        record {
+          some = omega arith;
+          inside = omega (arith, c .inside);
+          first = subst (λ (i : ℕ). offer (take i (d ∷ ds)) ≡ figures x) m taken;
+          onward = subst (λ (i : ℕ). best periods price offer (drop i (d ∷ ds)) ≡ figures xs) m rest;
+        }
+
+    best-of-none : (ds : List ℕ) → best periods price offer ds ≡ figures [] → ds ≡ []
+    unfolding bests
+    best-of-none [] e = refl
+    best-of-none (d ∷ ds) e = absurd (nil≢cons (first-choice (d ∷ ds) (bests periods price offer ds) (length (d ∷ ds)) e .made .all))
+
+    -- Each choice is the offer for its run.
+    pub best-offers : (ds : List ℕ) (xs : List X) → best periods price offer ds ≡ figures xs → Cuts periods (λ run x. offer run ≡ figures x) ds xs
+    best-offers ds [] e = subst (λ (es : List ℕ). Cuts periods (λ run x. offer run ≡ figures x) es []) (sym (best-of-none ds e)) none
+    best-offers ds (x ∷ xs) e =
+        let k = best-runs ds x xs e in
+        let f : FirstRun periods (λ run x. offer run ≡ figures x) ds x = record { some = k .some; inside = k .inside; fits = k .first } in
+        run f (best-offers (drop (periods x) ds) xs (k .onward))
