@@ -8,3 +8,4 @@ pub mod SeriesLaws
 pub mod OutlineRanges
 pub mod PriceLaws
 pub mod OutlineLaws
+pub mod SuffixLaws

@@ -20,12 +20,12 @@ use Rattle.terms.specs.RangeLaws.{TariffRange}
 use Rattle.single.specs.declared.costs.Priced.{Priced}
 use Rattle.single.specs.CostLaws.{periodLimit, cost-le}
 use Rattle.single.specs.Preference.{smaller}
-use Rattle.single.specs.Single.{Serves, cheapestOf}
+use Rattle.single.specs.Single.{cheapestOf}
 use Rattle.single.specs.SingleLaws.{IsSingle, cheapest-is}
 use Rattle.series.specs.declared.outlines.Outline.{Outline}
 use Rattle.series.specs.Cutting.{FirstRun, Cuts, none, run, total, longer, wins, firstRun, joined, bestFirst}
 use Rattle.series.specs.CuttingLaws.{Within, IsBest, Rests, first-is}
-use Rattle.series.specs.Series.{Cutting, runLength, runCost, trueCost, Carried, preferred, recordOf, runRecord}
+use Rattle.series.specs.Series.{Cutting, runLength, runCost, trueCost, ServesRun, Carried, preferred, recordOf, runRecord}
 use Rattle.series.specs.SeriesLaws.{IsSeries, run-offered}
 use Rattle.series.specs.Outline.{unpriced, priceOf, noOutline, outlineOf, betters, betterOutline, firstOutline}
 
@@ -121,7 +121,7 @@ module _ (t : Tariff) (h : TariffRange t) (ds : List ℕ) (few : length ds ≤ t
 
       both-below : trueCost t (bucketFor p ∷ xs) < unpriced
       both-below =
-          let f : FirstRun runLength (λ run x. Serves t run (x .bucket)) ds (bucketFor p) = record { some = omega arith; inside = l; fits = s .serves } in
+          let f : FirstRun runLength (ServesRun t) ds (bucketFor p) = record { some = omega arith; inside = l; fits = s .serves } in
           carried-below t h few (run f (i .kind))
 
     better-step : (b : Answer Cutting) → UpTo t k b → (a : Answer Priced) → IsSingle t (take (suc k) ds) a → (r : Answer Cutting) → IsSeries t (drop (suc k) ds) r
@@ -137,8 +137,8 @@ module _ (t : Tariff) (h : TariffRange t) (ds : List ℕ) (few : length ds ≤ t
     pub cost : (i : ℕ) → i < length ds → getD costs i 0 ≡ outlineOf t (getD rests i (refused 7)) .cost
     pub count : (i : ℕ) → i < length ds → getD counts i 0 ≡ outlineOf t (getD rests i (refused 7)) .buckets
 
-  module _ (rests : List (Answer Cutting)) (bests : Rests runLength (runCost t) (λ run x. Serves t run (x .bucket)) ds rests) (prices costs counts : List ℕ) (s : Lists rests prices costs counts) where
-    up-to : (k : ℕ) (a : Answer Cutting) → IsBest runLength (runCost t) (Within runLength (runCost t) (λ run x. Serves t run (x .bucket)) ds k) a → UpTo t k a
+  module _ (rests : List (Answer Cutting)) (bests : Rests runLength (runCost t) (ServesRun t) ds rests) (prices costs counts : List ℕ) (s : Lists rests prices costs counts) where
+    up-to : (k : ℕ) (a : Answer Cutting) → IsBest runLength (runCost t) (Within runLength (runCost t) (ServesRun t) ds k) a → UpTo t k a
     up-to k (figures ys) b = b .kind .first
     up-to k (refused n) b = tt
 
@@ -160,5 +160,5 @@ module _ (t : Tariff) (h : TariffRange t) (ds : List ℕ) (few : length ds ≤ t
         let m : k ≤ length ds = omega arith in
         ap (λ (o : Outline). betterOutline o (record { cost = getD prices k 0 + getD costs k 0; buckets = getD counts k 0 + 1; first = suc k })) (first-outline k m)
         ∙ ap (betterOutline (outlineOf t b)) (new-outline k l)
-        ∙ better-step k l b (up-to k b (first-is runLength (runCost t) (λ run x. Serves t run (x .bucket)) (runRecord t) (run-offered t) ds rests bests k m)) a (cheapest-is t (take (suc k) ds)) r (bests k l)
+        ∙ better-step k l b (up-to k b (first-is runLength (runCost t) (ServesRun t) (runRecord t) (run-offered t) ds rests bests k m)) a (cheapest-is t (take (suc k) ds)) r (bests k l)
         ∙ ap (λ (n : ℕ). outlineOf t (choose (preferred t) b (joined (recordOf n a) r))) (sym (length-take-le (suc k) ds l))

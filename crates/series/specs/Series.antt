@@ -41,9 +41,13 @@ runCost t x = costOf t (x .periods) (x .bucket)
 abbrev pub trueCost : Tariff → Cutting → ℕ
 trueCost t = total (runCost t)
 
--- Carried, document 01's term: the runs make up the trace, and each bucket is inside the caps and, fresh, carries its run.
+-- The bucket of a record is inside the caps and, fresh, carries the run.
+abbrev pub ServesRun : Tariff → List ℕ → BucketRecord → Type 0
+ServesRun t run x = Serves t run (x .bucket)
+
+-- Carried, document 01's term: the runs make up the trace, and each bucket serves its run.
 abbrev pub Carried : Tariff → List ℕ → Cutting → Type 0
-Carried t = Cuts runLength (λ run x. Serves t run (x .bucket))
+Carried t = Cuts runLength (ServesRun t)
 
 -- xs is chosen before ys: the least cost; then fewer buckets; then the longer first run, the longer second and so on.
 abbrev pub preferred : Tariff → Cutting → Cutting → Bool

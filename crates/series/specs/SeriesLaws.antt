@@ -16,14 +16,14 @@ use Rattle.terms.specs.Ranges.{periodsOk, tariffOk}
 use Rattle.terms.specs.AnswerLaws.{weigh-figures, weigh-refused}
 use Rattle.single.specs.declared.costs.Priced.{Priced}
 use Rattle.single.specs.Cost.{costOf}
-use Rattle.single.specs.Single.{Serves, cheapestOf}
+use Rattle.single.specs.Single.{cheapestOf}
 use Rattle.single.specs.SingleLaws.{IsSingle, cheapest-is, cheapest-least}
 use Rattle.series.specs.CuttingLaws.{BestOf, IsBest, IsOffer, not-wins-cost, bests-are}
-use Rattle.series.specs.Series.{Cutting, runLength, runCost, trueCost, Carried, preferred, recordOf, runRecord, cheapestCut, seriesOf}
+use Rattle.series.specs.Series.{Cutting, runLength, runCost, trueCost, ServesRun, Carried, preferred, recordOf, runRecord, cheapestCut, seriesOf}
 
 module _ (t : Tariff) where
   -- The single bucket is the cheapest choice for its run.
-  offered : (ds : List ℕ) (a : Answer Priced) → IsSingle t ds a → IsOffer runLength (runCost t) (λ run x. Serves t run (x .bucket)) ds (recordOf (length ds) a)
+  offered : (ds : List ℕ) (a : Answer Priced) → IsSingle t ds a → IsOffer runLength (runCost t) (ServesRun t) ds (recordOf (length ds) a)
   offered ds (figures x) k =
       record {
         whole = refl;
@@ -33,7 +33,7 @@ module _ (t : Tariff) where
       }
   offered ds (refused n) k = (k .0, λ y s. k .1 (y .bucket) s)
 
-  pub run-offered : (run : List ℕ) → IsOffer runLength (runCost t) (λ run x. Serves t run (x .bucket)) run (runRecord t run)
+  pub run-offered : (run : List ℕ) → IsOffer runLength (runCost t) (ServesRun t) run (runRecord t run)
   run-offered run = offered run (cheapestOf t run) (cheapest-is t run)
 
   -- xs is the series answer: it is carried, and no carried cutting is preferred.
@@ -48,7 +48,7 @@ module _ (t : Tariff) where
 
   module _ (ds : List ℕ) where
     pub series-is : IsSeries ds (cheapestCut t ds)
-    series-is = bests-are runLength (runCost t) (λ run x. Serves t run (x .bucket)) (runRecord t) run-offered ds 0 (omega arith)
+    series-is = bests-are runLength (runCost t) (ServesRun t) (runRecord t) run-offered ds 0 (omega arith)
 
     -- No other carried cutting costs less.
     pub best-cost : {xs : Cutting} → Best ds xs → (ys : Cutting) → Carried t ds ys → trueCost t xs ≤ trueCost t ys

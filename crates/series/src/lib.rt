@@ -2,6 +2,7 @@
 mod outlines;
 mod plans;
 mod prices;
+mod suffixes;
 
 pub use plans::Plan;
 pub use plans::SeriesAnswer;

@@ -1,0 +1,146 @@
+-- What the search keeps, from each period on, and how one more period is added in front.
+-- Assumes nothing.
+use Prim.Native.Nat.{ℕ, suc, _+_, _-_, _≤_, _<_}
+use native.Mathlib.Omega.{arith}
+use native.Mathlib.Nat.{le-refl, le-of-eq}
+use native.Mathlib.Numerals.{add-one}
+use mathlib.Core.Path.{_≡_, refl, sym, ap, subst, _∙_}
+use mathlib.Core.Bool.{Bool, true, false}
+use mathlib.Core.List.{List, [], _∷_}
+use borrow.Author.Tests.{eqb-true, eqb-false}
+use lib.Dec.{eqb}
+use lib.ListN.{length, take, drop, getD, set, length-set, length-drop}
+use lib.Seq.{take-all, getD-take, getD-drop, drop-drop, length-take-le, getD-set-same, getD-set-other}
+use Rattle.terms.specs.declared.Tariff.{Tariff}
+use Rattle.terms.specs.Answer.{Answer, refused}
+use Rattle.terms.specs.Limits.{traceLimit}
+use Rattle.terms.specs.RangeLaws.{TariffRange}
+use Rattle.single.specs.Rates.{candidates}
+use Rattle.single.specs.Single.{cheapestOf}
+use Rattle.series.specs.declared.outlines.Outline.{Outline}
+use Rattle.series.specs.Cutting.{bests}
+use Rattle.series.specs.CuttingLaws.{bests-are}
+use Rattle.series.specs.RunLaws.{bests-at}
+use Rattle.series.specs.Series.{Cutting, runLength, runCost, ServesRun, runRecord, cheapestCut}
+use Rattle.series.specs.SeriesLaws.{run-offered, series-is}
+use Rattle.series.specs.Outline.{unpriced, priceOf, outlineOf, firstOutline}
+use Rattle.series.specs.OutlineLaws.{Lists, outline-cost, outline-count, first-outline}
+use Rattle.series.specs.OutlineRanges.{OutlineRange}
+use Rattle.series.specs.PriceLaws.{Prices, price-below}
+
+-- The outline of the best cutting of what is left from a period on.
+abbrev pub outlineFrom : Tariff → List ℕ → ℕ → Outline
+outlineFrom t ds j = outlineOf t (cheapestCut t (drop j ds))
+
+-- The lists hold the outlines from period `from` on, counted from 0; the last is that of no period.
+pub record Kept (t : Tariff) (ds : List ℕ) (from : ℕ) (costs counts firsts : List ℕ) : Type 0 where
+  pub cost-room : length ds < length costs
+  pub count-room : length ds < length counts
+  pub first-room : length ds < length firsts
+  pub cost : (j : ℕ) → from ≤ j → j ≤ length ds → getD costs j 0 ≡ outlineFrom t ds j .cost
+  pub count : (j : ℕ) → from ≤ j → j ≤ length ds → getD counts j 0 ≡ outlineFrom t ds j .buckets
+  pub first : (j : ℕ) → from ≤ j → j ≤ length ds → getD firsts j 0 ≡ outlineFrom t ds j .first
+
+-- The lists hold the outlines of what is left of some periods after 1, 2, .. and all of them.
+pub record Left (t : Tariff) (ds : List ℕ) (costs counts : List ℕ) : Type 0 where
+  pub some : 0 < length ds
+  pub costs-all : length costs ≡ length ds
+  pub counts-all : length counts ≡ length ds
+  pub cost : (i : ℕ) → i < length ds → getD costs i 0 ≡ outlineFrom t ds (suc i) .cost
+  pub count : (i : ℕ) → i < length ds → getD counts i 0 ≡ outlineFrom t ds (suc i) .buckets
+
+module _ (t : Tariff) (h : TariffRange t) (ds : List ℕ) (few : length ds ≤ traceLimit) (prices costs counts : List ℕ) (p : Prices t ds (candidates t) prices) (k : Left t ds costs counts) where
+  left-price : (i : ℕ) → i < length ds → getD prices i 0 ≤ unpriced
+  left-price i l =
+      subst (λ (n : ℕ). n ≤ unpriced) (sym (p .each i l))
+      (price-below t (take (i + 1) ds) h (omega (arith, length-take-le (i + 1) ds (omega arith))) (candidates t) (le-refl _))
+
+  left-few : (i : ℕ) → length (drop (suc i) ds) ≤ traceLimit
+  left-few i = omega (arith, length-drop (suc i) ds)
+
+  -- The lists can be added up.
+  pub left-range : OutlineRange prices costs counts
+  left-range =
+      record {
+        few = omega (arith, k .costs-all);
+        priced = omega (arith, k .costs-all, p .room);
+        counted = omega (arith, k .costs-all, k .counts-all);
+        price = λ i l. left-price i (omega (arith, k .costs-all));
+        cost = λ i l. subst (λ (n : ℕ). n ≤ unpriced) (sym (k .cost i (omega (arith, k .costs-all)))) (outline-cost t h (drop (suc i) ds) (left-few i) (cheapestCut t (drop (suc i) ds)) (series-is t (drop (suc i) ds)));
+        count = λ i l. subst (λ (n : ℕ). n ≤ traceLimit) (sym (k .count i (omega (arith, k .costs-all)))) (outline-count t h (drop (suc i) ds) (left-few i) (cheapestCut t (drop (suc i) ds)) (series-is t (drop (suc i) ds)));
+      }
+
+-- The best first run gives the outline of the best cutting.
+pub left-best : (t : Tariff) → TariffRange t → (ds : List ℕ) → length ds ≤ traceLimit → (prices costs counts : List ℕ) → Prices t ds (candidates t) prices → Left t ds costs counts
+    → firstOutline prices costs counts (length costs) ≡ outlineOf t (cheapestCut t ds)
+unfolding bests
+left-best t h [] few prices costs counts p k = absurd (omega (arith, k .some))
+left-best t h (d ∷ ds) few prices costs counts p k =
+    let rests = bests runLength (runCost t) (runRecord t) ds in
+    ap (firstOutline prices costs counts) (k .costs-all)
+    ∙ first-outline t h (d ∷ ds) few rests (λ n l. bests-are runLength (runCost t) (ServesRun t) (runRecord t) (run-offered t) ds n (omega arith)) prices costs counts
+      (record {
+        price = λ i l. p .each i l ∙ ap (λ (n : ℕ). priceOf (cheapestOf t (take n (d ∷ ds)))) (add-one i);
+        cost = λ i l. k .cost i l ∙ ap (λ (a : Answer Cutting). outlineOf t a .cost) (sym (bests-at runLength (runCost t) (runRecord t) ds i (omega arith)));
+        count = λ i l. k .count i l ∙ ap (λ (a : Answer Cutting). outlineOf t a .buckets) (sym (bests-at runLength (runCost t) (runRecord t) ds i (omega arith)));
+      })
+      (length (d ∷ ds)) (le-refl _)
+
+-- ---- One more period in front
+
+-- A part of a list, by its entries.
+part-at : (xs : List ℕ) (a n i : ℕ) → i < n → getD (take n (drop a xs)) i 0 ≡ getD xs (a + i) 0
+part-at xs a n i l = getD-take n (drop a xs) i 0 l ∙ getD-drop a xs i 0
+
+part-length : (xs : List ℕ) (a n : ℕ) → a + n ≤ length xs → length (take n (drop a xs)) ≡ n
+part-length xs a n l = length-take-le n (drop a xs) (omega (arith, length-drop a xs))
+
+-- The part from one entry to the end.
+pub part-rest : (xs : List ℕ) (a : ℕ) → take (length xs - a) (drop a xs) ≡ drop a xs
+part-rest xs a = take-all (length xs - a) (drop a xs) (le-of-eq (length-drop a xs))
+
+-- A list that follows f from one entry on, and now from the entry before it.
+set-before : (f : ℕ → ℕ) (xs : List ℕ) (start end v : ℕ) → start < length xs → v ≡ f start → ((j : ℕ) → suc start ≤ j → j ≤ end → getD xs j 0 ≡ f j)
+    → (j : ℕ) → start ≤ j → j ≤ end → getD (set xs start v) j 0 ≡ f j
+set-before f xs start end v room e all j l m = go (eqb j start) refl
+  where
+    go : (b : Bool) → eqb j start ≡ b → getD (set xs start v) j 0 ≡ f j
+    go true g =
+        let i = eqb-true j start g in
+        ap (λ (n : ℕ). getD (set xs start v) n 0) i ∙ getD-set-same xs start v 0 room ∙ e ∙ ap f (sym i)
+    go false g = getD-set-other xs start j v 0 (eqb-false j start g) ∙ all j (omega (arith, eqb-false)) m
+
+module _ (t : Tariff) (ds costs counts firsts : List ℕ) (start : ℕ) (l : start < length ds) (k : Kept t ds (suc start) costs counts firsts) where
+  left-length : length (drop start ds) ≡ length ds - start
+  left-length = length-drop start ds
+
+  -- What is left after i + 1 more periods.
+  left-on : (i : ℕ) → outlineFrom t ds (suc start + i) ≡ outlineFrom t (drop start ds) (suc i)
+  left-on i =
+      let e : suc start + i ≡ start + suc i = omega arith in
+      ap (λ (es : List ℕ). outlineOf t (cheapestCut t es)) (ap (λ (n : ℕ). drop n ds) e ∙ sym (drop-drop (suc i) start ds))
+
+  pub kept-left : Left t (drop start ds) (take (length ds + 1 - suc start) (drop (suc start) costs)) (take (length ds + 1 - suc start) (drop (suc start) counts))
+  kept-left =
+      record {
+        some = omega (arith, left-length);
+        costs-all = part-length costs (suc start) (length ds + 1 - suc start) (omega (arith, k .cost-room)) ∙ omega (arith, left-length);
+        counts-all = part-length counts (suc start) (length ds + 1 - suc start) (omega (arith, k .count-room)) ∙ omega (arith, left-length);
+        cost = λ i m.
+            part-at costs (suc start) (length ds + 1 - suc start) i (omega (arith, left-length))
+            ∙ k .cost (suc start + i) (omega arith) (omega (arith, left-length)) ∙ ap (λ (o : Outline). o .cost) (left-on i);
+        count = λ i m.
+            part-at counts (suc start) (length ds + 1 - suc start) i (omega (arith, left-length))
+            ∙ k .count (suc start + i) (omega arith) (omega (arith, left-length)) ∙ ap (λ (o : Outline). o .buckets) (left-on i);
+      }
+
+  pub kept-more : (o : Outline) → o ≡ outlineFrom t ds start → Kept t ds start (set costs start (o .cost)) (set counts start (o .buckets)) (set firsts start (o .first))
+  kept-more o e =
+      record {
+        cost-room = omega (arith, k .cost-room, length-set costs start (o .cost));
+        count-room = omega (arith, k .count-room, length-set counts start (o .buckets));
+        first-room = omega (arith, k .first-room, length-set firsts start (o .first));
+        cost = set-before (λ j. outlineFrom t ds j .cost) costs start (length ds) (o .cost) (omega (arith, k .cost-room)) (ap (λ (o : Outline). o .cost) e) (k .cost);
+        count = set-before (λ j. outlineFrom t ds j .buckets) counts start (length ds) (o .buckets) (omega (arith, k .count-room)) (ap (λ (o : Outline). o .buckets) e) (k .count);
+        first = set-before (λ j. outlineFrom t ds j .first) firsts start (length ds) (o .first) (omega (arith, k .first-room)) (ap (λ (o : Outline). o .first) e) (k .first);
+      }
