@@ -9,3 +9,4 @@ pub mod OutlineRanges
 pub mod PriceLaws
 pub mod OutlineLaws
 pub mod SuffixLaws
+pub mod RecordLaws

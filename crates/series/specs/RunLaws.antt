@@ -89,7 +89,7 @@ module _ {X : Type 0} (periods price : X → ℕ) (offer : List ℕ → Answer X
           onward = subst (λ (i : ℕ). best periods price offer (drop i (d ∷ ds)) ≡ figures xs) m rest;
         }
 
-    best-of-none : (ds : List ℕ) → best periods price offer ds ≡ figures [] → ds ≡ []
+    pub best-of-none : (ds : List ℕ) → best periods price offer ds ≡ figures [] → ds ≡ []
     unfolding bests
     best-of-none [] e = refl
     best-of-none (d ∷ ds) e = absurd (nil≢cons (first-choice (d ∷ ds) (bests periods price offer ds) (length (d ∷ ds)) e .made .all))

@@ -2,6 +2,7 @@
 mod outlines;
 mod plans;
 mod prices;
+mod records;
 mod suffixes;
 
 pub use plans::Plan;

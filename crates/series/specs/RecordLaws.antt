@@ -1,0 +1,126 @@
+-- How the records are stored one by one: the first run is the one kept for its start, its bucket is the single answer on its
+-- own part of the trace, and what follows is the best cutting from its end on.
+-- Assumes nothing.
+use Prim.Native.Nat.{ℕ, zero, suc, _+_, _-_, _≤_, _<_}
+use native.Mathlib.Omega.{arith}
+use native.Mathlib.Nat.{le-of-eq}
+use native.Mathlib.Numerals.{add-one}
+use mathlib.Core.Path.{_≡_, refl, sym, ap, subst, _∙_}
+use mathlib.Core.Bool.{true}
+use mathlib.Core.List.{List, [], _∷_, _++_, map}
+use lib.ListN.{length, take, drop, getD, set, length-drop, length-set, length-map, List·getD-map}
+use lib.Seq.{take-suc, drop-cons, append-snoc, set-at, length-take-le, drop-drop, take-all}
+use Rattle.terms.specs.declared.Bucket.{Bucket}
+use Rattle.terms.specs.declared.BucketRecord.{BucketRecord}
+use Rattle.terms.specs.declared.Tariff.{Tariff}
+use Rattle.terms.specs.Answer.{Answer, figures, refused}
+use Rattle.terms.specs.AnswerLaws.{figures-refused, same-figures}
+use Rattle.terms.specs.Limits.{traceLimit}
+use Rattle.terms.specs.RangeLaws.{PeriodsRange, TariffRange, periods-ok, tariff-ok}
+use Rattle.single.specs.declared.costs.Priced.{Priced}
+use Rattle.single.specs.Single.{bucketOf, cheapestOf, singleOf}
+use Rattle.series.specs.RunLaws.{Runs, best-runs, best-of-none}
+use Rattle.series.specs.Series.{Cutting, runLength, runCost, recordOf, runRecord, cheapestCut, recorded}
+use Rattle.series.specs.Outline.{outlineOf}
+use Rattle.series.specs.SuffixLaws.{outlineFrom}
+
+-- A list whose front is that of another.
+abbrev pub front : ℕ → List ℕ → List ℕ → List ℕ
+front k xs old = take k xs ++ drop k old
+
+-- One entry more.
+pub front-next : (k : ℕ) (xs old : List ℕ) (v : ℕ) → v ≡ getD xs k 0 → k < length xs → k < length old → set (front k xs old) k v ≡ front (k + 1) xs old
+front-next k xs old v e l m =
+    ap (λ (ys : List ℕ). set (take k xs ++ ys) k v) (drop-cons old k 0 m)
+    ∙ set-at (take k xs) (getD old k 0) (drop (suc k) old) v k (length-take-le k xs (omega arith))
+    ∙ ap (λ (n : ℕ). take k xs ++ n ∷ drop (suc k) old) e
+    ∙ sym (append-snoc (take k xs) (getD xs k 0) (drop (suc k) old))
+    ∙ ap (λ (ys : List ℕ). ys ++ drop (suc k) old) (sym (take-suc xs k 0 l))
+    ∙ ap (λ (n : ℕ). front n xs old) (sym (add-one k))
+
+-- The choice for a run has the run's length.
+record-whole : (t : Tariff) (run : List ℕ) (x : BucketRecord) → runRecord t run ≡ figures x → runLength x ≡ length run
+record-whole t run x e = go (cheapestOf t run) e
+  where
+    go : (a : Answer Priced) → recordOf (length run) a ≡ figures x → runLength x ≡ length run
+    go (figures p) f = ap runLength (sym (same-figures f))
+    go (refused n) f = absurd (figures-refused (sym f))
+
+-- It is what the single call finds.
+pub record-single : (t : Tariff) (run : List ℕ) → TariffRange t → PeriodsRange (length run) → runRecord t run ≡ recordOf (length run) (singleOf t run)
+unfolding singleOf
+record-single t run h few = rw (periods-ok _ few, tariff-ok t h) refl
+
+-- Stands past the end of a list of records.
+abbrev pub noRecord : BucketRecord
+noRecord = record { periods = 0; bucket = bucketOf 0 0 }
+
+-- The run that begins at `start`, all being the cutting and k the records before it.
+pub record NextRun (t : Tariff) (ds : List ℕ) (all : Cutting) (start k : ℕ) (x : BucketRecord) : Type 0 where
+  pub more : k < length all
+  pub some : 1 ≤ runLength x
+  pub inside : start + runLength x ≤ length ds
+  pub length-kept : outlineFrom t ds start .first ≡ runLength x
+  pub is-record : runRecord t (take (runLength x) (drop start ds)) ≡ figures x
+  pub onward : cheapestCut t (drop (start + runLength x) ds) ≡ figures (drop (k + 1) all)
+
+module _ (t : Tariff) (ds : List ℕ) (all : Cutting) (start k : ℕ) (l : start < length ds) (e : cheapestCut t (drop start ds) ≡ figures (drop k all)) where
+  some-left : k < length all
+  some-left = go (drop k all) refl
+    where
+      go : (ys : Cutting) → drop k all ≡ ys → k < length all
+      go [] f =
+          let none = best-of-none runLength (runCost t) (runRecord t) (record-whole t) (drop start ds) (e ∙ ap figures f) in
+          absurd (omega (arith, length-drop start ds, ap length none))
+      go (y ∷ ys) f = omega (arith, length-drop k all, ap length f)
+
+  pub next-run : NextRun t ds all start k (getD all k noRecord)
+  next-run =
+      let x = getD all k noRecord in
+      let f = e ∙ ap figures (drop-cons all k noRecord some-left) in
+      let r = best-runs runLength (runCost t) (runRecord t) (record-whole t) (drop start ds) x (drop (suc k) all) f in
+      record {
+        more = some-left;
+        some = r .some;
+        inside = omega (arith, r .inside, length-drop start ds);
+        length-kept = ap (λ (a : Answer Cutting). outlineOf t a .first) f;
+        is-record = r .first;
+        onward =
+            ap (cheapestCut t) (sym (drop-drop (runLength x) start ds)) ∙ r .onward ∙ ap (λ (n : ℕ). figures (drop n all)) (sym (add-one k));
+      }
+
+-- A cutting is found, and the list holds the length of the first run from each period on.
+pub record Firsts (t : Tariff) (ds firsts : List ℕ) : Type 0 where
+  pub cut : Cutting
+  pub found : cheapestCut t ds ≡ figures cut
+  pub room : length ds < length firsts
+  pub first : (j : ℕ) → j ≤ length ds → getD firsts j 0 ≡ outlineFrom t ds j .first
+
+-- ---- The lists
+
+-- One figure of the first k records is stored.
+pub record Stored (figure : BucketRecord → ℕ) (cut : Cutting) (k : ℕ) (old new : List ℕ) : Type 0 where
+  pub same : length new ≡ length old
+  pub is : new ≡ front k (map figure cut) old
+
+module _ (figure : BucketRecord → ℕ) (cut : Cutting) (old new : List ℕ) where
+  pub stored-none : Stored figure cut 0 old old
+  stored-none = record { same = refl; is = refl }
+
+  pub stored-next : (k v : ℕ) → figure noRecord ≡ 0 → k < length cut → k < length old → v ≡ figure (getD cut k noRecord) → Stored figure cut k old new → Stored figure cut (k + 1) old (set new k v)
+  stored-next k v z l m e s =
+      let f : v ≡ getD (map figure cut) k 0 = e ∙ sym (List·getD-map figure cut k noRecord) ∙ ap (getD (map figure cut) k) z in
+      record {
+        same = length-set new k v ∙ s .same;
+        is = ap (λ (ys : List ℕ). set ys k v) (s .is) ∙ front-next k (map figure cut) old v f (omega (arith, length-map cut figure)) m;
+      }
+
+  pub stored-all : (k : ℕ) → k ≡ length cut → Stored figure cut k old new → new ≡ recorded figure (figures cut) old
+  stored-all k e s =
+      s .is
+      ∙ ap (λ (n : ℕ). front n (map figure cut) old) e
+      ∙ ap (λ (ys : List ℕ). ys ++ drop (length cut) old) (take-all (length cut) (map figure cut) (le-of-eq (length-map cut figure)))
+
+-- A run that has a bucket.
+abbrev pub HasBucket : Tariff → List ℕ → Type 0
+HasBucket t run = (x : BucketRecord) × (runRecord t run ≡ figures x)
