@@ -83,7 +83,11 @@ recorded figure (refused n) old = old
 
 -- The room of three lent lists: the entries of the shortest.
 abbrev pub roomOf : List ℕ → List ℕ → List ℕ → ℕ
-roomOf xs ys zs = min (length xs) (min (length ys) (length zs))
+roomOf xs ys zs = min (min (length xs) (length ys)) (length zs)
+
+-- The series answer for those lists.
+abbrev pub seriesFor : Tariff → List ℕ → List ℕ → List ℕ → List ℕ → Answer Cutting
+seriesFor t ds runs rates depths = seriesOf t (roomOf runs rates depths) ds
 
 -- Each case of the answer in document 01's values and numbers.
 abbrev pub seriesSays : SeriesAnswer → Answer Plan

@@ -2,11 +2,13 @@
 -- the same runs with other buckets included, and none of equal cost is preferred; and refusal 7 is given exactly when no
 -- cutting is carried.
 -- Assumes nothing.
-use Prim.Native.Nat.{ℕ, _≤_}
+use Prim.Native.Nat.{ℕ, _≤_, min}
 use native.Mathlib.Omega.{arith}
+use native.Mathlib.Nat.{le-trans, le-min, min-le-left, min-le-right}
 use mathlib.Core.Path.{_≡_, refl, sym, ap, subst, _∙_}
-use mathlib.Core.Bool.{true, false}
+use mathlib.Core.Bool.{Bool, true, false, _&&_}
 use mathlib.Core.List.{List}
+use borrow.Author.Tests.{leb-true, le-leb}
 use lib.Dec.{leb}
 use lib.ListN.{length}
 use Rattle.terms.specs.declared.BucketRecord.{BucketRecord}
@@ -14,12 +16,40 @@ use Rattle.terms.specs.declared.Tariff.{Tariff}
 use Rattle.terms.specs.Answer.{Answer, figures, refused, weigh}
 use Rattle.terms.specs.Ranges.{periodsOk, tariffOk}
 use Rattle.terms.specs.AnswerLaws.{weigh-figures, weigh-refused}
+use Rattle.terms.specs.Bools.{and-both, both-and, true-false, not-true-false}
 use Rattle.single.specs.declared.costs.Priced.{Priced}
 use Rattle.single.specs.Cost.{costOf}
 use Rattle.single.specs.Single.{cheapestOf}
 use Rattle.single.specs.SingleLaws.{IsSingle, cheapest-is, cheapest-least}
+use Rattle.series.specs.declared.plans.Plan.{Plan}
 use Rattle.series.specs.CuttingLaws.{BestOf, IsBest, IsOffer, not-wins-cost, bests-are}
-use Rattle.series.specs.Series.{Cutting, runLength, runCost, trueCost, ServesRun, Carried, preferred, recordOf, runRecord, cheapestCut, seriesOf}
+use Rattle.series.specs.Series.{Cutting, runLength, runRate, runDepth, runCost, trueCost, ServesRun, Carried, preferred, recordOf, runRecord, cheapestCut, seriesOf, planOf, recorded}
+
+-- What is answered, and what the lists hold where they held runs, rates and depths.
+module _ (t : Tariff) (runs rates depths : List ℕ) where
+  abbrev pub Result : Answer Plan → List ℕ → List ℕ → List ℕ → Answer Cutting → Type 0
+  Result r runs′ rates′ depths′ a = (r ≡ planOf t a) × ((runs′ ≡ recorded runLength a runs) × ((rates′ ≡ recorded runRate a rates) × (depths′ ≡ recorded runDepth a depths)))
+
+  -- A refusal answers its number and leaves the lists as they were.
+  pub refusal : (a : Answer Cutting) (n : ℕ) → a ≡ refused n → Result (refused n) runs rates depths a
+  refusal a n e =
+      let kept : (figure : BucketRecord → ℕ) (old : List ℕ) → old ≡ recorded figure a old = λ figure old. sym (ap (λ (b : Answer Cutting). recorded figure b old) e) in
+      (sym (ap (planOf t) e), (kept runLength runs, (kept runRate rates, kept runDepth depths)))
+
+-- The room of three lists is enough exactly when each has it.
+pub room-each : (n a b c : ℕ) → leb n a && leb n b && leb n c ≡ leb n (min (min a b) c)
+room-each n a b c = ap (λ (x : Bool). x && leb n c) (both n a b) ∙ both n (min a b) c
+  where
+    both : (n a b : ℕ) → leb n a && leb n b ≡ leb n (min a b)
+    both n a b = go (leb n (min a b)) refl
+      where
+        go : (c : Bool) → leb n (min a b) ≡ c → leb n a && leb n b ≡ c
+        go true e =
+            let l = leb-true n (min a b) e in
+            both-and (le-leb n a (le-trans l (min-le-left a b))) (le-leb n b (le-trans l (min-le-right a b)))
+        go false e = not-true-false _ (λ h.
+            let k = and-both (leb n a) (leb n b) h in
+            true-false (le-leb n (min a b) (le-min (leb-true n a (k .0)) (leb-true n b (k .1)))) e)
 
 module _ (t : Tariff) where
   -- The single bucket is the cheapest choice for its run.

@@ -9,22 +9,22 @@ use mathlib.Core.Bool.{Bool, true, false}
 use mathlib.Core.List.{List, [], _∷_}
 use borrow.Author.Tests.{eqb-true, eqb-false}
 use lib.Dec.{eqb}
-use lib.ListN.{length, take, drop, getD, set, length-set, length-drop}
+use lib.ListN.{length, take, drop, getD, set, replicate, length-set, length-drop, drop-of-length-le, getD-replicate}
 use lib.Seq.{take-all, getD-take, getD-drop, drop-drop, length-take-le, getD-set-same, getD-set-other}
 use Rattle.terms.specs.declared.Tariff.{Tariff}
-use Rattle.terms.specs.Answer.{Answer, refused}
+use Rattle.terms.specs.Answer.{Answer, figures, refused}
 use Rattle.terms.specs.Limits.{traceLimit}
 use Rattle.terms.specs.RangeLaws.{TariffRange}
 use Rattle.single.specs.Rates.{candidates}
 use Rattle.single.specs.Single.{cheapestOf}
 use Rattle.series.specs.declared.outlines.Outline.{Outline}
-use Rattle.series.specs.Cutting.{bests}
+use Rattle.series.specs.Cutting.{bests, total}
 use Rattle.series.specs.CuttingLaws.{bests-are}
 use Rattle.series.specs.RunLaws.{bests-at}
-use Rattle.series.specs.Series.{Cutting, runLength, runCost, ServesRun, runRecord, cheapestCut}
-use Rattle.series.specs.SeriesLaws.{run-offered, series-is}
+use Rattle.series.specs.Series.{Cutting, runLength, runCost, ServesRun, runRecord, cheapestCut, planOf}
+use Rattle.series.specs.SeriesLaws.{IsSeries, run-offered, series-is}
 use Rattle.series.specs.Outline.{unpriced, priceOf, outlineOf, firstOutline}
-use Rattle.series.specs.OutlineLaws.{Lists, outline-cost, outline-count, first-outline}
+use Rattle.series.specs.OutlineLaws.{Lists, carried-below, outline-cost, outline-count, first-outline}
 use Rattle.series.specs.OutlineRanges.{OutlineRange}
 use Rattle.series.specs.PriceLaws.{Prices, price-below}
 
@@ -79,12 +79,12 @@ left-best t h (d ∷ ds) few prices costs counts p k =
     let rests = bests runLength (runCost t) (runRecord t) ds in
     ap (firstOutline prices costs counts) (k .costs-all)
     ∙ first-outline t h (d ∷ ds) few rests (λ n l. bests-are runLength (runCost t) (ServesRun t) (runRecord t) (run-offered t) ds n (omega arith)) prices costs counts
-      (record {
-        price = λ i l. p .each i l ∙ ap (λ (n : ℕ). priceOf (cheapestOf t (take n (d ∷ ds)))) (add-one i);
-        cost = λ i l. k .cost i l ∙ ap (λ (a : Answer Cutting). outlineOf t a .cost) (sym (bests-at runLength (runCost t) (runRecord t) ds i (omega arith)));
-        count = λ i l. k .count i l ∙ ap (λ (a : Answer Cutting). outlineOf t a .buckets) (sym (bests-at runLength (runCost t) (runRecord t) ds i (omega arith)));
-      })
-      (length (d ∷ ds)) (le-refl _)
+    (record {
+      price = λ i l. p .each i l ∙ ap (λ (n : ℕ). priceOf (cheapestOf t (take n (d ∷ ds)))) (add-one i);
+      cost = λ i l. k .cost i l ∙ ap (λ (a : Answer Cutting). outlineOf t a .cost) (sym (bests-at runLength (runCost t) (runRecord t) ds i (omega arith)));
+      count = λ i l. k .count i l ∙ ap (λ (a : Answer Cutting). outlineOf t a .buckets) (sym (bests-at runLength (runCost t) (runRecord t) ds i (omega arith)));
+    })
+    (length (d ∷ ds)) (le-refl _)
 
 -- ---- One more period in front
 
@@ -144,3 +144,35 @@ module _ (t : Tariff) (ds costs counts firsts : List ℕ) (start : ℕ) (l : sta
         count = set-before (λ j. outlineFrom t ds j .buckets) counts start (length ds) (o .buckets) (omega (arith, k .count-room)) (ap (λ (o : Outline). o .buckets) e) (k .count);
         first = set-before (λ j. outlineFrom t ds j .first) firsts start (length ds) (o .first) (omega (arith, k .first-room)) (ap (λ (o : Outline). o .first) e) (k .first);
       }
+
+-- ---- Before the first turn and after the last
+
+-- After the last period nothing is left, and it costs nothing.
+none-left : (t : Tariff) (ds : List ℕ) (j : ℕ) → length ds ≤ j → outlineFrom t ds j ≡ record { cost = 0; buckets = 0; first = 0 }
+unfolding bests total
+none-left t ds j l = ap (λ (es : List ℕ). outlineOf t (cheapestCut t es)) (drop-of-length-le ds l)
+
+pub kept-start : (t : Tariff) (ds : List ℕ) → length ds ≤ traceLimit → Kept t ds (length ds) (replicate 513 0) (replicate 513 0) (replicate 513 0)
+kept-start t ds few =
+    let zeros : (j : ℕ) → j ≤ length ds → _≡_ {A = ℕ} (getD (replicate 513 0) j 0) 0 = λ j l. getD-replicate 513 j 0 0 (omega arith) in
+    record {
+      cost-room = omega arith;
+      count-room = omega arith;
+      first-room = omega arith;
+      cost = λ j l m. zeros j m ∙ ap (λ (o : Outline). o .cost) (sym (none-left t ds j l));
+      count = λ j l m. zeros j m ∙ ap (λ (o : Outline). o .buckets) (sym (none-left t ds j l));
+      first = λ j l m. zeros j m ∙ ap (λ (o : Outline). o .first) (sym (none-left t ds j l));
+    }
+
+-- An outline without a cost is that of refusal 7, and one with a cost gives the figures of a plan.
+module _ (t : Tariff) (h : TariffRange t) (ds : List ℕ) (few : length ds ≤ traceLimit) where
+  pub outline-none : (a : Answer Cutting) → IsSeries t ds a → outlineOf t a .cost ≡ unpriced → a ≡ refused 7
+  outline-none (figures xs) k e = absurd (omega (arith, carried-below t h few (k .kind)))
+  outline-none (refused n) k e = ap refused (k .0)
+
+  pub outline-found : (a : Answer Cutting) → (outlineOf t a .cost ≡ unpriced → ⊥) → (xs : Cutting) × (a ≡ figures xs)
+  outline-found (figures xs) n = (xs, refl)
+  outline-found (refused m) n = absurd (n refl)
+
+pub outline-plan : (t : Tariff) (a : Answer Cutting) (xs : Cutting) → a ≡ figures xs → planOf t a ≡ figures (record { buckets = outlineOf t a .buckets; cost = outlineOf t a .cost })
+outline-plan t a xs e = ap (planOf t) e ∙ ap (λ (b : Answer Cutting). figures (record { buckets = outlineOf t b .buckets; cost = outlineOf t b .cost })) (sym e)

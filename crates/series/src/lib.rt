@@ -7,3 +7,4 @@ mod suffixes;
 
 pub use plans::Plan;
 pub use plans::SeriesAnswer;
+pub use plans::series;

@@ -83,7 +83,7 @@ module _ (t : Tariff) (ds : List ℕ) where
       go false h =
           let c : greatest ds < t .«rate_cap» .0 = leb-false _ _ h in
           let from : (j : ℕ) → greatest ds + 1 ≤ j → bestOf t ds j ≡ bestOf t ds (greatest ds + 1) = λ j i.
-              ap (bestOf t ds) (omega arith) ∙ above-none (bestOf t ds (greatest ds + 1)) refl (best-is t ds (greatest ds + 1)) (j - (greatest ds + 1)) in
+          ap (bestOf t ds) (omega arith) ∙ above-none (bestOf t ds (greatest ds + 1)) refl (best-is t ds (greatest ds + 1)) (j - (greatest ds + 1)) in
           from k (omega arith) ∙ sym (from (candidates t) (omega arith))
 
   pub weighed-enough : bestOf t ds (weighed t ds) ≡ cheapestOf t ds

@@ -56,7 +56,7 @@ module _ (t : Tariff) (r : ℕ) (ds prices : List ℕ) (w : Walk) where
             g
             ∙ ap (λ (n : ℕ). min n price) (k .ahead i (le-refl i) l)
             ∙ ap (min (priceOf (bestOf t (take (i + 1) ds) r)))
-              (f ∙ ap (λ (x : Walk). priceOf (atDepth t (i + 1) r (depthFrom (t .factor .p) (t .factor .q) (t .«depth_cap» .0) x))) pushed-on ∙ price-walk t ds r (i + 1) h m)
+            (f ∙ ap (λ (x : Walk). priceOf (atDepth t (i + 1) r (depthFrom (t .factor .p) (t .factor .q) (t .«depth_cap» .0) x))) pushed-on ∙ price-walk t ds r (i + 1) h m)
             ∙ price-next t (take (i + 1) ds) h (omega (arith, length-take-le (i + 1) ds m)) r slow
 
         other : (j : ℕ) → (j ≡ i → ⊥) → getD (set prices i low) j 0 ≡ getD prices j 0
@@ -112,9 +112,10 @@ add-price-at c = search needs
 price-at-requires : tie.Need-price-at-requires Inv-loop μ-loop
 price-at-requires c κs =
     let i = c .before .before in
-    let h = i .before .before .before .before .before .pre in
-    (pushed-room _ _ _ _ _ _ _ (i .before .loop .inv) (i .loop-test .taken) _ (c .push .ensures) (le-trans (h .1 .1 .0) (h .1 .0 .rate-caps)) (demands i) (h .0),
-    (h .1 .0, (omega (arith, i .loop-test .taken, h .0), h .1 .1 .0)))
+    let h = i .before .before .before .before .before .pre in (
+      pushed-room _ _ _ _ _ _ _ (i .before .loop .inv) (i .loop-test .taken) _ (c .push .ensures) (le-trans (h .1 .1 .0) (h .1 .0 .rate-caps)) (demands i) (h .0),
+      (h .1 .0, (omega (arith, i .loop-test .taken, h .0), h .1 .1 .0)),
+    )
 
 mul-cheaper : tie.Need-mul-cheaper Inv-loop μ-loop
 mul-cheaper c = search needs

@@ -49,11 +49,9 @@ begin t ds firsts runs rates depths h f =
 
 module _ (t : Tariff) (ds runs₀ rates₀ depths₀ runs rates depths : List ℕ) (start k : ℕ) (r : Recording t ds runs₀ rates₀ depths₀ runs rates depths start k) where
   room-each : length ds ≤ roomOf runs₀ rates₀ depths₀ → (length ds ≤ length runs₀) × (length ds ≤ length rates₀) × (length ds ≤ length depths₀)
-  room-each m = (
-    le-trans m (min-le-left _ _),
-    le-trans m (le-trans (min-le-right (length runs₀) _) (min-le-left _ _)),
-    le-trans m (le-trans (min-le-right (length runs₀) _) (min-le-right (length rates₀) _)),
-  )
+  room-each m =
+      let n = le-trans m (min-le-left (min (length runs₀) (length rates₀)) (length depths₀)) in
+      (le-trans n (min-le-left _ _), le-trans n (min-le-right (length runs₀) _), le-trans m (min-le-right (min (length runs₀) (length rates₀)) _))
 
   module _ (firsts : List ℕ) (f : Firsts t ds firsts) (l : start < length ds) where
     -- the run that a turn stores
