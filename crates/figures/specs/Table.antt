@@ -5,9 +5,10 @@ use mathlib.Core.Path.{_≡_, refl}
 use mathlib.Core.Bool.{true}
 use mathlib.Core.List.{List, [], _∷_}
 use lib.IntN.{ℤ, pos, negsuc}
+use lib.ListN.{length}
 use Rattle.terms.specs.declared.Factor.{Factor}
 use Rattle.terms.specs.declared.Tariff.{Tariff}
-use Rattle.terms.specs.Answer.{figures, refused}
+use Rattle.terms.specs.Answer.{Answer, figures, refused}
 use Rattle.bucket.specs.declared.trials.TrialFigures.{TrialFigures}
 use Rattle.bucket.specs.declared.meters.Meter.{Meter}
 use Rattle.bucket.specs.Step.{startOf}
@@ -19,27 +20,44 @@ use Rattle.single.specs.declared.costs.Priced.{Priced}
 use Rattle.single.specs.Cost.{costOf}
 use Rattle.single.specs.Preference.{smaller, preferred}
 use Rattle.single.specs.Single.{bucketOf, atRate, bestOf, singleOf}
+use Rattle.series.specs.Cutting.{total, longer, wins, bestFirst, bests}
+use Rattle.series.specs.Series.{Cutting, trueCost, seriesOf}
 use Rattle.figures.specs.Rows.{Row, rowOf, allRight, Hold, all-hold}
 
 -- the factor of the printed case
 half : Factor
 half = record { p = 1; q = 2 }
 
--- the printed case's prices 2 and 1, F = 4, factor 1/2 and rate cap 4,095, with a depth cap
-capped : ℕ → Tariff
-capped B =
+-- the printed case's prices 2 and 1, factor 1/2 and rate cap 4,095, with a fee and a depth cap
+sold : ℕ → ℕ → Tariff
+sold F B =
     record {
       «rate_price» = record { 0 = 2 };
       «depth_price» = record { 0 = 1 };
-      fee = 4;
+      fee = F;
       factor = half;
       «rate_cap» = record { 0 = 4095 };
       «depth_cap» = record { 0 = B };
     }
 
--- the printed case's tariff
+-- the printed case's tariff, and with another fee
 printed : Tariff
-printed = capped 1000000
+printed = sold 4 1000000
+
+fee : ℕ → Tariff
+fee F = sold F 1000000
+
+-- row G's and H's: factor 0/1, caps 5 and 10
+empty : Tariff
+empty =
+    record {
+      «rate_price» = record { 0 = 2 };
+      «depth_price» = record { 0 = 1 };
+      fee = 4;
+      factor = record { p = 0; q = 1 };
+      «rate_cap» = record { 0 = 5 };
+      «depth_cap» = record { 0 = 10 };
+    }
 
 -- row D's: factor 2/3, prices 7 and 5, F = 0
 uneven : Tariff
@@ -66,6 +84,19 @@ singleRow x = pos (x .bucket .rate .0) ∷ pos (x .bucket .depth .0) ∷ pos (x 
 costRow : Priced → List ℤ
 costRow x = pos (x .cost) ∷ []
 
+-- run length, rate and depth of each bucket
+bucketRows : Cutting → List ℤ
+bucketRows [] = []
+bucketRows (x ∷ xs) = pos (x .periods) ∷ pos (x .bucket .rate .0) ∷ pos (x .bucket .depth .0) ∷ bucketRows xs
+
+-- bucket count, cost and the buckets
+seriesRow : Tariff → Cutting → List ℤ
+seriesRow t xs = pos (length xs) ∷ pos (trueCost t xs) ∷ bucketRows xs
+
+-- the series with as much room as periods
+seriesAt : Tariff → List ℕ → Answer (List ℤ)
+seriesAt t ds = rowOf (seriesRow t) (seriesOf t (length ds) ds)
+
 trialRow : TrialFigures → List ℤ
 trialRow t = t .spare ∷ pos (t .over) ∷ []
 
@@ -80,8 +111,8 @@ table =
     ∷ record { given = rowOf depthRow (depthOf printed 5 case); paper = figures (pos 4 ∷ []) }
     ∷ record { given = rowOf depthRow (depthOf printed 6 case); paper = figures (pos 2 ∷ []) }
     -- B: 4,8,2 at rate 5: depth cap 4 gives 4, cap 3 gives refusal 7
-    ∷ record { given = rowOf depthRow (depthOf (capped 4) 5 case); paper = figures (pos 4 ∷ []) }
-    ∷ record { given = rowOf depthRow (depthOf (capped 3) 5 case); paper = refused 7 }
+    ∷ record { given = rowOf depthRow (depthOf (sold 4 4) 5 case); paper = figures (pos 4 ∷ []) }
+    ∷ record { given = rowOf depthRow (depthOf (sold 4 3) 5 case); paper = refused 7 }
     -- C: single for 4,8,2: (5, 4), cost 46; rate 6 with depth 2 costs the same
     ∷ record { given = rowOf singleRow (singleOf printed case); paper = figures (pos 5 ∷ pos 4 ∷ pos 46 ∷ []) }
     ∷ record { given = rowOf singleRow (atRate printed case 6); paper = figures (pos 6 ∷ pos 2 ∷ pos 46 ∷ []) }
@@ -90,8 +121,21 @@ table =
     ∷ record { given = rowOf costRow (atRate uneven (3 ∷ []) 0); paper = figures (pos 25 ∷ []) }
     ∷ record { given = rowOf costRow (atRate uneven (3 ∷ []) 1); paper = figures (pos 22 ∷ []) }
     ∷ record { given = rowOf costRow (atRate uneven (3 ∷ []) 2); paper = figures (pos 24 ∷ []) }
+    -- E: series for 4,8,2 with F = 10: one bucket (5, 4), cost 52
+    ∷ record { given = seriesAt (fee 10) case; paper = figures (pos 1 ∷ pos 52 ∷ pos 3 ∷ pos 5 ∷ pos 4 ∷ []) }
+    -- F: the same, fee 3: three buckets (0, 8), (0, 16), (0, 4), cost 37
+    ∷ record {
+      given = seriesAt (fee 3) case;
+      paper = figures (pos 3 ∷ pos 37 ∷ pos 1 ∷ pos 0 ∷ pos 8 ∷ pos 1 ∷ pos 0 ∷ pos 16 ∷ pos 1 ∷ pos 0 ∷ pos 4 ∷ []);
+    }
+    -- G: factor 0/1, caps 5 and 10, trace 2,8: one bucket (5, 3), cost 30
+    ∷ record { given = seriesAt empty (2 ∷ 8 ∷ []); paper = figures (pos 1 ∷ pos 30 ∷ pos 2 ∷ pos 5 ∷ pos 3 ∷ []) }
+    -- H: as G, trace 8,2: refusal 7
+    ∷ record { given = seriesAt empty (8 ∷ 2 ∷ []); paper = refused 7 }
     -- I: trace 0: (0, 0), cost 4
     ∷ record { given = rowOf singleRow (singleOf printed (0 ∷ [])); paper = figures (pos 0 ∷ pos 0 ∷ pos 4 ∷ []) }
+    -- the printed case: two buckets (5, 4) and (0, 4), cost 40
+    ∷ record { given = seriesAt printed case; paper = figures (pos 2 ∷ pos 40 ∷ pos 2 ∷ pos 5 ∷ pos 4 ∷ pos 1 ∷ pos 0 ∷ pos 4 ∷ []) }
     -- J: meter rate 5, depth 4, offers 4,8,2,9: sent 22, over 1, lost 0, tokens 0
     ∷ record {
       given = rowOf (meterRow (4 ∷ 8 ∷ 2 ∷ 9 ∷ [])) (openOf (bucketOf 5 4) half);
@@ -105,7 +149,7 @@ table =
     ∷ []
 
 table-right : allRight table ≡ true
-unfolding table half printed capped uneven case depthRow singleRow costRow trialRow meterRow allRight startOf sumOf carriesFrom gaps leastOf spareFrom trialFigures meterOk offerOf afterOffers firstFrom depthOf costOf smaller preferred bestOf singleOf
+unfolding table half sold printed fee empty uneven case depthRow singleRow costRow bucketRows seriesRow seriesAt trialRow meterRow allRight startOf sumOf carriesFrom gaps leastOf spareFrom trialFigures meterOk offerOf afterOffers firstFrom depthOf costOf smaller preferred bestOf singleOf total longer wins bestFirst bests seriesOf
 table-right = refl
 
 pub figures-hold : Hold table

@@ -1,6 +1,7 @@
 // Prints the lettered figures of document 01 as the calls give them.
 use bucket::MeterAnswer;
 use terms::Bucket;
+use terms::BucketRecord;
 use terms::Depth;
 use terms::DepthPrice;
 use terms::Factor;
@@ -15,18 +16,30 @@ fn main() {
     row_b();
     row_c();
     row_d();
+    rows_e_to_h();
     row_i();
+    printed_case();
     row_j();
     row_k();
 }
 
 // The printed case's tariff, with caps on rate and depth.
 fn printed(rate: u32, depth: u32) -> Tariff {
+    sold(4, Factor { p: 1, q: 2 }, rate, depth)
+}
+
+// The same with another fee.
+fn with_fee(fee: u32) -> Tariff {
+    sold(fee, Factor { p: 1, q: 2 }, 4095, 1_000_000)
+}
+
+// The printed case's prices, with a fee, a factor and caps on rate and depth.
+fn sold(fee: u32, factor: Factor, rate: u32, depth: u32) -> Tariff {
     Tariff {
         rate_price: RatePrice(2),
         depth_price: DepthPrice(1),
-        fee: 4,
-        factor: Factor { p: 1, q: 2 },
+        fee,
+        factor,
         rate_cap: Rate(rate),
         depth_cap: Depth(depth),
     }
@@ -85,6 +98,47 @@ fn row_d() {
     report::single(single::single(&trace, uneven(1, 3)));
     report::words(b"D");
     report::single(single::single(&trace, uneven(2, 2)));
+}
+
+// The printed trace at fees 10 and 3, and two traces from empty under caps 5 and 10.
+fn rows_e_to_h() {
+    let trace = CASE;
+    let later: [u16; 2] = [2, 8];
+    let sooner: [u16; 2] = [8, 2];
+    let empty = sold(4, Factor { p: 0, q: 1 }, 5, 10);
+    series_row(b"E", &trace, with_fee(10));
+    series_row(b"F", &trace, with_fee(3));
+    series_row(b"G", &later, empty);
+    series_row(b"H", &sooner, empty);
+}
+
+fn printed_case() {
+    let trace = CASE;
+    series_row(b"printed", &trace, with_fee(4));
+}
+
+// The series of at most three periods, and each of its buckets.
+fn series_row(name: &[u8], trace: &[u16], tariff: Tariff) {
+    let mut runs = [0u32; 3];
+    let mut rates = [0u32; 3];
+    let mut depths = [0u32; 3];
+    report::words(name);
+    report::series(series::series(trace, tariff, &mut runs, &mut rates, &mut depths));
+    bucket_of(runs[0], rates[0], depths[0]);
+    bucket_of(runs[1], rates[1], depths[1]);
+    bucket_of(runs[2], rates[2], depths[2]);
+    report::end_line();
+}
+
+// A bucket, where its run has any period.
+fn bucket_of(periods: u32, rate: u32, depth: u32) {
+    if 0 < periods {
+        let bucket = Bucket {
+            rate: Rate(rate),
+            depth: Depth(depth),
+        };
+        report::record(BucketRecord { periods, bucket });
+    }
 }
 
 // A trace of one period with nothing to send.

@@ -3,7 +3,9 @@
 use bucket::TrialAnswer;
 use depth::DepthAnswer;
 use libc::STDOUT_FILENO;
+use series::SeriesAnswer;
 use single::SingleAnswer;
+use terms::BucketRecord;
 use terms::Refusal;
 ghost use mathlib.Core.Path.{_≡_};
 ghost use lib.IntN.{natAbs};
@@ -86,4 +88,27 @@ pub fn single(a: SingleAnswer) {
         SingleAnswer::Refused(x) => refusal(x),
     }
     end_line();
+}
+
+// A plan's number of buckets and its cost, or the refusal; the line goes on.
+pub fn series(a: SeriesAnswer) {
+    match a {
+        SeriesAnswer::Found(plan) => {
+            words(b" buckets");
+            number(plan.buckets as u64);
+            words(b" cost");
+            number(plan.cost);
+        }
+        SeriesAnswer::Refused(x) => refusal(x),
+    }
+}
+
+// One bucket of a plan and the length of its run.
+pub fn record(x: BucketRecord) {
+    words(b" run");
+    number(x.periods as u64);
+    words(b" rate");
+    number(x.bucket.rate.0 as u64);
+    words(b" depth");
+    number(x.bucket.depth.0 as u64);
 }
