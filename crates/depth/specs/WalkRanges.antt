@@ -1,6 +1,6 @@
 -- The figures of a walk stay in range: no need is above the sum of the demands.
 -- Assumes nothing.
-use Prim.Native.Nat.{ℕ, suc, _+_, _*_, _≤_}
+use Prim.Native.Nat.{ℕ, _+_, _*_, _≤_}
 use native.Mathlib.Omega.{arith}
 use native.Mathlib.Nat.{max-le}
 use mathlib.Core.List.{List, [], _∷_, foldl}

@@ -1,10 +1,11 @@
 -- The definitions that contracts cite, in reading order, and their laws.
 pub mod Cutting
 pub mod Series
-pub mod Outline
 pub mod CuttingLaws
 pub mod RunLaws
 pub mod SeriesLaws
+pub mod LentLaws
+pub mod Outline
 pub mod OutlineRanges
 pub mod PriceLaws
 pub mod OutlineLaws

@@ -4,16 +4,15 @@
 -- Assumes nothing.
 use Prim.Native.Nat.{ℕ, zero, suc, _+_}
 use mathlib.Core.Bool.{Bool, cond, _&&_, _||_}
-use mathlib.Core.List.{List, [], _∷_}
+use mathlib.Core.List.{List}
 use lib.Dec.{ltb, leb, eqb}
 use lib.ListN.{length, getD}
-use Rattle.terms.specs.declared.BucketRecord.{BucketRecord}
 use Rattle.terms.specs.declared.Tariff.{Tariff}
 use Rattle.terms.specs.Answer.{Answer, figures, refused}
 use Rattle.single.specs.declared.costs.Priced.{Priced}
 use Rattle.series.specs.declared.outlines.Outline.{Outline}
 use Rattle.series.specs.Cutting.{firstRun}
-use Rattle.series.specs.Series.{Cutting, runLength, runCost, trueCost}
+use Rattle.series.specs.Series.{Cutting, runLength, trueCost}
 
 -- Stands for the cost where there is none.
 abbrev pub unpriced : ℕ

@@ -23,11 +23,11 @@ use Rattle.single.specs.Preference.{smaller}
 use Rattle.single.specs.Single.{cheapestOf}
 use Rattle.single.specs.SingleLaws.{IsSingle, cheapest-is}
 use Rattle.series.specs.declared.outlines.Outline.{Outline}
-use Rattle.series.specs.Cutting.{FirstRun, Cuts, none, run, total, longer, wins, firstRun, joined, bestFirst}
+use Rattle.series.specs.Cutting.{FirstRun, none, run, total, longer, wins, firstRun, joined, bestFirst}
 use Rattle.series.specs.CuttingLaws.{Within, IsBest, Rests, first-is}
 use Rattle.series.specs.Series.{Cutting, runLength, runCost, trueCost, ServesRun, Carried, preferred, recordOf, runRecord}
 use Rattle.series.specs.SeriesLaws.{IsSeries, run-offered}
-use Rattle.series.specs.Outline.{unpriced, priceOf, noOutline, outlineOf, betters, betterOutline, firstOutline}
+use Rattle.series.specs.Outline.{unpriced, priceOf, outlineOf, betterOutline, firstOutline}
 
 -- ---- Costs and counts are bounded by the periods
 

@@ -1,27 +1,23 @@
 -- How the records are stored one by one: the first run is the one kept for its start, its bucket is the single answer on its
 -- own part of the trace, and what follows is the best cutting from its end on.
 -- Assumes nothing.
-use Prim.Native.Nat.{ℕ, zero, suc, _+_, _-_, _≤_, _<_}
+use Prim.Native.Nat.{ℕ, suc, _+_, _-_, _≤_, _<_}
 use native.Mathlib.Omega.{arith}
 use native.Mathlib.Nat.{le-of-eq}
 use native.Mathlib.Numerals.{add-one}
-use mathlib.Core.Path.{_≡_, refl, sym, ap, subst, _∙_}
-use mathlib.Core.Bool.{true}
+use mathlib.Core.Path.{_≡_, refl, sym, ap, _∙_}
 use mathlib.Core.List.{List, [], _∷_, _++_, map}
 use lib.ListN.{length, take, drop, getD, set, length-drop, length-set, length-map, List·getD-map}
 use lib.Seq.{take-suc, drop-cons, append-snoc, set-at, length-take-le, drop-drop, take-all}
-use Rattle.terms.specs.declared.Bucket.{Bucket}
 use Rattle.terms.specs.declared.BucketRecord.{BucketRecord}
 use Rattle.terms.specs.declared.Tariff.{Tariff}
 use Rattle.terms.specs.Answer.{Answer, figures, refused}
-use Rattle.terms.specs.AnswerLaws.{figures-refused, same-figures}
 use Rattle.terms.specs.Limits.{traceLimit}
 use Rattle.terms.specs.RangeLaws.{PeriodsRange, TariffRange, periods-ok, tariff-ok}
-use Rattle.single.specs.declared.costs.Priced.{Priced}
-use Rattle.single.specs.Single.{bucketOf, cheapestOf, singleOf}
-use Rattle.series.specs.RunLaws.{Runs, best-runs, best-of-none}
+use Rattle.single.specs.Single.{bucketOf, singleOf}
+use Rattle.series.specs.RunLaws.{best-runs, best-of-none}
 use Rattle.series.specs.Series.{Cutting, runLength, runCost, recordOf, runRecord, cheapestCut, planOf, recorded}
-use Rattle.series.specs.SeriesLaws.{series-is}
+use Rattle.series.specs.SeriesLaws.{record-whole, series-is}
 use Rattle.series.specs.Outline.{unpriced, outlineOf}
 use Rattle.series.specs.SuffixLaws.{Kept, outlineFrom, outline-none, outline-found, outline-plan}
 
@@ -39,15 +35,7 @@ front-next k xs old v e l m =
     ∙ ap (λ (ys : List ℕ). ys ++ drop (suc k) old) (sym (take-suc xs k 0 l))
     ∙ ap (λ (n : ℕ). front n xs old) (sym (add-one k))
 
--- The choice for a run has the run's length.
-record-whole : (t : Tariff) (run : List ℕ) (x : BucketRecord) → runRecord t run ≡ figures x → runLength x ≡ length run
-record-whole t run x e = go (cheapestOf t run) e
-  where
-    go : (a : Answer Priced) → recordOf (length run) a ≡ figures x → runLength x ≡ length run
-    go (figures p) f = ap runLength (sym (same-figures f))
-    go (refused n) f = absurd (figures-refused (sym f))
-
--- It is what the single call finds.
+-- The record of a run is what the single call finds for it.
 pub record-single : (t : Tariff) (run : List ℕ) → TariffRange t → PeriodsRange (length run) → runRecord t run ≡ recordOf (length run) (singleOf t run)
 unfolding singleOf
 record-single t run h few = rw (periods-ok _ few, tariff-ok t h) refl

@@ -1,17 +1,19 @@
 -- How the best cutting is put together: its first run's choice is that run's offer, and it goes on with the best cutting of
 -- what is left.
 -- Assumes nothing.
-use Prim.Native.Nat.{ℕ, zero, suc, _+_, _≤_, _<_}
+use Prim.Native.Nat.{ℕ, zero, suc, _≤_, _<_}
 use native.Mathlib.Omega.{arith}
 use mathlib.Core.Path.{_≡_, refl, sym, ap, subst, _∙_}
-use mathlib.Core.Bool.{Bool, true, false, cond}
+use mathlib.Core.Bool.{Bool, true, false, true≢false, cond}
 use mathlib.Core.List.{List, [], _∷_, nil≢cons, head-eq-of-cons-eq, tail-eq-of-cons-eq}
 use mathlib.Core.Logic.{_⊎_, inl, inr, ⊎-elim}
 use lib.ListN.{length, take, drop, getD}
 use lib.Seq.{length-take-le, drop-cons}
 use Rattle.terms.specs.Answer.{Answer, figures, refused, choose}
 use Rattle.terms.specs.AnswerLaws.{figures-refused, same-figures}
-use Rattle.series.specs.Cutting.{Cuts, none, run, FirstRun, firstRun, wins, joined, bestFirst, bests, best}
+use Rattle.single.specs.PreferenceLaws.{smaller-same}
+use Rattle.series.specs.Cutting.{FirstRun, Cuts, none, run, total, longer, wins, joined, bestFirst, bests, best}
+use Rattle.series.specs.CuttingLaws.{cut-first}
 
 choose-either : {A : Type 0} (preferred : A → A → Bool) (a b : Answer A) {x : A} → choose preferred a b ≡ figures x → (a ≡ figures x) ⊎ (b ≡ figures x)
 choose-either preferred a (refused n) e = inl e
@@ -36,6 +38,13 @@ parts (figures x) (refused n) e = absurd (figures-refused (sym e))
 parts (refused n) rest e = absurd (figures-refused (sym e))
 
 module _ {X : Type 0} (periods price : X → ℕ) (offer : List ℕ → Answer X) where
+  -- The runs make up the periods, and each choice is the offer for its run.
+  abbrev Matches : List ℕ → X → Type 0
+  Matches es x = offer es ≡ figures x
+
+  abbrev pub Offers : List ℕ → List X → Type 0
+  Offers = Cuts periods Matches
+
   -- The best for what is left after n periods.
   pub bests-at : (ds : List ℕ) (n : ℕ) → n ≤ length ds → getD (bests periods price offer ds) n (refused 7) ≡ best periods price offer (drop n ds)
   unfolding bests
@@ -95,9 +104,30 @@ module _ {X : Type 0} (periods price : X → ℕ) (offer : List ℕ → Answer X
     best-of-none (d ∷ ds) e = absurd (nil≢cons (first-choice (d ∷ ds) (bests periods price offer ds) (length (d ∷ ds)) e .made .all))
 
     -- Each choice is the offer for its run.
-    pub best-offers : (ds : List ℕ) (xs : List X) → best periods price offer ds ≡ figures xs → Cuts periods (λ run x. offer run ≡ figures x) ds xs
-    best-offers ds [] e = subst (λ (es : List ℕ). Cuts periods (λ run x. offer run ≡ figures x) es []) (sym (best-of-none ds e)) none
+    pub best-offers : (ds : List ℕ) (xs : List X) → best periods price offer ds ≡ figures xs → Offers ds xs
+    best-offers ds [] e = subst (λ (es : List ℕ). Offers es []) (sym (best-of-none ds e)) none
     best-offers ds (x ∷ xs) e =
         let k = best-runs ds x xs e in
-        let f : FirstRun periods (λ run x. offer run ≡ figures x) ds x = record { some = k .some; inside = k .inside; fits = k .first } in
+        let f : FirstRun periods Matches ds x = record { some = k .some; inside = k .inside; fits = k .first } in
         run f (best-offers (drop (periods x) ds) xs (k .onward))
+
+  -- Of two different cuttings whose choices are the offers one wins.
+  offers-same : (ds : List ℕ) (xs ys : List X) → Offers ds xs → Offers ds ys → longer periods xs ys ≡ false → longer periods ys xs ≡ false → xs ≡ ys
+  unfolding longer
+  offers-same ds [] [] c d h k = refl
+  offers-same ds [] (y ∷ ys) c d h k = absurd (true≢false k)
+  offers-same ds (x ∷ xs) [] c d h k = absurd (true≢false h)
+  offers-same ds (x ∷ xs) (y ∷ ys) c d h k =
+      let s = smaller-same (periods y) (periods x) (longer periods xs ys) (longer periods ys xs) h k in
+      let f = cut-first periods price Matches c in
+      let g = cut-first periods price Matches d in
+      let e : x ≡ y = same-figures (sym (f .0 .fits) ∙ ap (λ (n : ℕ). offer (take n ds)) (sym (s .0)) ∙ g .0 .fits) in
+      ap (λ (z : X). z ∷ xs) e
+      ∙ ap (λ (zs : List X). y ∷ zs) (offers-same (drop (periods y) ds) xs ys (subst (λ (n : ℕ). Offers (drop n ds) xs) (sym (s .0)) (f .1)) (g .1) (s .1) (s .2))
+
+  pub offers-only : (ds : List ℕ) (xs ys : List X) → Offers ds xs → Offers ds ys → wins periods price xs ys ≡ false → wins periods price ys xs ≡ false → xs ≡ ys
+  unfolding wins
+  offers-only ds xs ys c d h k =
+      let a = smaller-same (total price xs) (total price ys) _ _ h k in
+      let b = smaller-same (length xs) (length ys) _ _ (a .1) (a .2) in
+      offers-same ds xs ys c d (b .1) (b .2)

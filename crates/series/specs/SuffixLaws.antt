@@ -24,7 +24,7 @@ use Rattle.series.specs.RunLaws.{bests-at}
 use Rattle.series.specs.Series.{Cutting, runLength, runCost, ServesRun, runRecord, cheapestCut, planOf}
 use Rattle.series.specs.SeriesLaws.{IsSeries, run-offered, series-is}
 use Rattle.series.specs.Outline.{unpriced, priceOf, outlineOf, firstOutline}
-use Rattle.series.specs.OutlineLaws.{Lists, carried-below, outline-cost, outline-count, first-outline}
+use Rattle.series.specs.OutlineLaws.{carried-below, outline-cost, outline-count, first-outline}
 use Rattle.series.specs.OutlineRanges.{OutlineRange}
 use Rattle.series.specs.PriceLaws.{Prices, price-below}
 

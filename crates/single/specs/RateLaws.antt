@@ -1,7 +1,7 @@
 -- Rates that need not be weighed: those above the greatest demand, since at that demand depth 0 carries and a larger bucket is
 -- never preferred; and those that cost more even at depth 0 than a bucket that is found.
 -- Assumes nothing.
-use Prim.Native.Nat.{ℕ, zero, suc, _+_, _-_, _≤_, _<_, min}
+use Prim.Native.Nat.{ℕ, zero, suc, _+_, _-_, _≤_, _<_}
 use native.Mathlib.Omega.{arith}
 use native.Mathlib.Nat.{le-refl, le-trans, le-antisymm, lt-of-lt-of-le, le-max-left, le-max-right, min-le-left, add-zero}
 use mathlib.Core.Path.{_≡_, refl, sym, ap, _∙_}

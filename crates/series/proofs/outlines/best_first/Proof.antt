@@ -1,5 +1,5 @@
 -- After i turns the best of those with a first run of 1 to i periods is found.
-use Prim.Native.Nat.{ℕ, _+_, _-_, _≤_, _<_}
+use Prim.Native.Nat.{ℕ, _+_, _-_, _≤_}
 use Rattle.series.specs.Outline.{noOutline, betterOutline, firstOutline}
 use Rattle.series.specs.declared.outlines.Outline.{Outline}
 use borrow.Author.Needs.{needs}

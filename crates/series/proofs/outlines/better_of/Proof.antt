@@ -1,6 +1,5 @@
 -- The test is the definition's.
 use Rattle.series.specs.Outline.{betterOutline}
-use borrow.Author.Needs.{needs}
 use Rattle.series.proofs.outlines.better_of.Statement.{statement}
 use Rattle.series.proofs.outlines.better_of.Tie as tie
 

@@ -2,7 +2,7 @@
 -- recorded.
 use borrow.Author.Needs.{needs}
 use Rattle.series.specs.RecordLaws.{kept-none, kept-firsts, kept-plan}
-use Rattle.series.specs.SeriesLaws.{refusal}
+use Rattle.series.specs.LentLaws.{refusal}
 use Rattle.series.specs.SuffixLaws.{kept-start}
 use Rattle.series.proofs.plans.cheapest.Statement.{statement}
 use Rattle.series.proofs.plans.cheapest.Tie as tie

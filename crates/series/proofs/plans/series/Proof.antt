@@ -1,6 +1,6 @@
 -- Each refusal is the first rule that its test finds broken, and leaves the lists; past the tests the search gives the answer.
-use Prim.Native.Nat.{ℕ, _≤_}
-use mathlib.Core.Path.{_≡_, refl, sym, ap, subst, _∙_}
+use Prim.Native.Nat.{ℕ}
+use mathlib.Core.Path.{_≡_, sym, subst, _∙_}
 use mathlib.Core.Bool.{true, false, _&&_}
 use mathlib.Core.List.{List}
 use borrow.Author.Needs.{needs}
@@ -13,7 +13,7 @@ use Rattle.terms.specs.Ranges.{periodsOk, tariffOk}
 use Rattle.terms.specs.RangeLaws.{periods-range, tariff-range}
 use Rattle.terms.specs.Bools.{check-passed, check-failed}
 use Rattle.series.specs.Series.{Cutting, cheapestCut, roomOf, seriesFor, seriesOf}
-use Rattle.series.specs.SeriesLaws.{Result, refusal, room-each}
+use Rattle.series.specs.LentLaws.{Result, refusal, room-each}
 use Rattle.series.proofs.plans.series.Statement.{statement}
 use Rattle.series.proofs.plans.series.Tie as tie
 

@@ -1,5 +1,5 @@
 -- After k turns the prices have the first k candidate rates weighed; the rates above the greatest demand change none of them.
-use Prim.Native.Nat.{ℕ, _+_, _-_, _≤_, _<_}
+use Prim.Native.Nat.{ℕ, _-_, _≤_}
 use Rattle.series.specs.Outline.{unpriced}
 use Rattle.series.specs.PriceLaws.{Prices, prices-all}
 use Rattle.single.specs.Rates.{candidates, weighed}
@@ -11,7 +11,7 @@ use borrow.Author.Needs.{needs}
 use lib.ListN.{length, replicate, getD-replicate}
 use mathlib.Core.List.{List}
 use mathlib.Core.Path.{_≡_, refl, sym, subst, _∙_}
-use native.Mathlib.Nat.{le-antisymm, le-trans}
+use native.Mathlib.Nat.{le-antisymm}
 use native.Mathlib.Omega.{arith}
 use Rattle.series.proofs.prices.prices_of.Statement.{statement}
 use Rattle.series.proofs.prices.prices_of.Tie as tie

@@ -2,12 +2,11 @@
 use Prim.Native.Nat.{ℕ, _+_, _-_, _≤_, _<_, min}
 use Rattle.series.specs.Cutting.{bests}
 use Rattle.series.specs.OutlineLaws.{carried-count}
-use Rattle.series.specs.RecordLaws.{Firsts, HasBucket, NextRun, Stored, noRecord, next-run, stored-none, stored-next, stored-all}
+use Rattle.series.specs.RecordLaws.{Firsts, NextRun, Stored, noRecord, next-run, stored-none, stored-next, stored-all}
 use Rattle.series.specs.Series.{Cutting, cheapestCut, recorded, roomOf, runDepth, runLength, runRate, runRecord}
 use Rattle.series.specs.SeriesLaws.{IsSeries, series-is}
 use Rattle.terms.specs.Answer.{Answer, figures}
 use Rattle.terms.specs.AnswerLaws.{same-figures}
-use Rattle.terms.specs.Limits.{traceLimit}
 use Rattle.terms.specs.RangeLaws.{PeriodsRange, TariffRange}
 use Rattle.terms.specs.declared.Bucket.{Bucket}
 use Rattle.terms.specs.declared.BucketRecord.{BucketRecord}
@@ -17,7 +16,7 @@ use lib.ListN.{length, take, drop, getD, set, length-drop, drop-of-length-le}
 use lib.Seq.{length-take-le}
 use mathlib.Core.List.{List, []}
 use mathlib.Core.Path.{_≡_, refl, sym, ap, subst, _∙_}
-use native.Mathlib.Nat.{le-refl, le-trans, min-le-left, min-le-right}
+use native.Mathlib.Nat.{le-trans, min-le-left, min-le-right}
 use native.Mathlib.Omega.{arith}
 use Rattle.series.proofs.records.record_runs.Statement.{statement}
 use Rattle.series.proofs.records.record_runs.Tie as tie

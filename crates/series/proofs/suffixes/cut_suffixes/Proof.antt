@@ -10,7 +10,7 @@ use borrow.Author.Needs.{needs}
 use lib.ListN.{length, take, drop, set, length-set, length-take}
 use Rattle.terms.specs.Limits.{traceLimit}
 use mathlib.Core.List.{List}
-use mathlib.Core.Path.{_≡_, refl, sym, ap, subst, _∙_}
+use mathlib.Core.Path.{_≡_, sym, ap, subst, _∙_}
 use Rattle.series.proofs.suffixes.cut_suffixes.Statement.{statement}
 use Rattle.series.proofs.suffixes.cut_suffixes.Tie as tie
 

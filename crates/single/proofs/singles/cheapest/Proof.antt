@@ -1,6 +1,6 @@
 -- After k turns the best of the first k candidate rates is found. At the end those above are never preferred; and once the
 -- rates left cost more than what is found, even at depth 0, they never are either.
-use Prim.Native.Nat.{ℕ, _+_, _-_, _≤_, _<_}
+use Prim.Native.Nat.{ℕ, _+_, _-_, _≤_}
 use native.Mathlib.Omega.{arith}
 use native.Mathlib.Nat.{le-antisymm, le-trans}
 use mathlib.Core.Path.{_≡_, refl, sym, ap, _∙_}
@@ -18,7 +18,7 @@ use Rattle.depth.specs.DepthLaws.{depth-in-range, depth-within}
 use Rattle.single.specs.declared.costs.Priced.{Priced}
 use Rattle.single.specs.declared.singles.SingleAnswer.{SingleAnswer}
 use Rattle.single.specs.declared.singles.SingleAnswer.the-variants.{Refused}
-use Rattle.single.specs.Rates.{weighed, dearer}
+use Rattle.single.specs.Rates.{dearer}
 use Rattle.single.specs.Single.{better, bestOf, singleSays}
 use Rattle.single.specs.BestLaws.{best-next}
 use Rattle.single.specs.RateLaws.{inside-cap, weighed-enough, dearer-enough}
