@@ -1,0 +1,85 @@
+// One small case: its trace and tariff, and whether the call answers and records as the plain
+// search does.
+use crate::cuttings::Choice;
+use crate::cuttings::UNPRICED;
+use crate::cuttings::buckets_of;
+use crate::cuttings::preferred;
+use crate::lists::Lists;
+use crate::lists::before;
+use crate::lists::recorded;
+use crate::lists::same_lists;
+use crate::tariffs::Small;
+use crate::tariffs::small_tariff;
+use crate::tariffs::tariff_of;
+use series::SeriesAnswer;
+use series::series;
+
+// Case n: one of the 780 traces of one to four demands, and a tariff.
+pub fn agrees(n: u32) -> bool {
+    let m = n % 780;
+    let k = among_its_length(m);
+    let trace: [u16; 4] = [demand(k), demand(k / 5), demand(k / 25), demand(k / 125)];
+    let small = small_tariff(n / 780);
+    match periods(m) {
+        1 => agrees_on(&trace[..1], small),
+        2 => agrees_on(&trace[..2], small),
+        3 => agrees_on(&trace[..3], small),
+        _ => agrees_on(&trace, small),
+    }
+}
+
+// There are 5 traces of one demand, 25 of two, 125 of three and 625 of four.
+fn periods(m: u32) -> u32 {
+    if m < 5 {
+        return 1;
+    }
+    if m < 30 {
+        return 2;
+    }
+    if m < 155 { 3 } else { 4 }
+}
+
+// A trace's number among those of its length.
+fn among_its_length(m: u32) -> u32 {
+    if m < 5 {
+        return m;
+    }
+    if m < 30 {
+        return m - 5;
+    }
+    if m < 155 { m - 30 } else { m - 155 }
+}
+
+// A demand of 0 to 4.
+fn demand(n: u32) -> u16 {
+    (n % 5) as u16
+}
+
+// Whether the call answers and leaves the lists as the preferred cutting does.
+fn agrees_on(trace: &[u16], small: Small) -> bool {
+    let lists = before();
+    let mut runs = lists.runs;
+    let mut rates = lists.rates;
+    let mut depths = lists.depths;
+    let answer = series(trace, tariff_of(small), &mut runs, &mut rates, &mut depths);
+    let choice = preferred(trace, small);
+    let want = recorded(trace, small, choice.cutting);
+    let have = Lists {
+        runs,
+        rates,
+        depths,
+    };
+    same_answer(answer, choice) & same_lists(have, want)
+}
+
+// The number of buckets and the cost, or refusal 7 where there is no cutting.
+fn same_answer(a: SeriesAnswer, choice: Choice) -> bool {
+    let priced = choice.cost < UNPRICED as u32;
+    match a {
+        SeriesAnswer::Found(x) => {
+            let buckets = x.buckets == buckets_of(choice.cutting);
+            priced & buckets & (x.cost == choice.cost as u64)
+        }
+        SeriesAnswer::Refused(x) => !priced & (terms::number_of(x) == 7),
+    }
+}

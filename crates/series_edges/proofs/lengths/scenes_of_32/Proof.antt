@@ -1,0 +1,50 @@
+-- Each period is written once; nothing is asked of what is written.
+use Prim.Native.Nat.{_-_, _≤_}
+use borrow.Author.Needs.{needs}
+use Rattle.series_edges.proofs.lengths.scenes_of_32.Statement.{statement}
+use Rattle.series_edges.proofs.lengths.scenes_of_32.Tie as tie
+
+abbrev Inv-loop : tie.InvT-loop
+Inv-loop trace₀ i₀ trace i = i ≤ 512
+
+abbrev μ-loop : tie.MeasureT-loop
+μ-loop trace₀ i₀ trace i = 512 - i
+
+loop-holds : tie.Need-loop-holds Inv-loop μ-loop
+loop-holds c = search needs
+
+demand-requires : tie.Need-demand-requires Inv-loop μ-loop
+demand-requires c κs = search needs
+
+mul-trace : tie.Need-mul-trace Inv-loop μ-loop
+mul-trace c = search needs
+
+array-write-trace : tie.Need-array-write-trace Inv-loop μ-loop
+array-write-trace c = search needs
+
+add-i : tie.Need-add-i Inv-loop μ-loop
+add-i c = search needs
+
+loop-less : tie.Need-loop-less Inv-loop μ-loop
+loop-less c = search needs
+
+loop-again : tie.Need-loop-again Inv-loop μ-loop
+loop-again c = search needs
+
+returns : tie.Need-returns Inv-loop μ-loop
+returns c = search needs
+
+pub scenes-of-32-spec : {M : Type 1} → statement M
+scenes-of-32-spec =
+    tie.close
+    (tie.spec
+    Inv-loop
+    μ-loop
+    loop-holds
+    demand-requires
+    mul-trace
+    array-write-trace
+    add-i
+    loop-less
+    loop-again
+    returns)

@@ -1,0 +1,146 @@
+// Lists of as many entries as periods and of more, and traces of 1 and of 512 periods.
+use crate::Caps;
+use crate::Prices;
+use crate::full;
+use crate::lists::edge;
+use crate::lists::edge_in;
+use crate::lists::lent;
+use crate::lists::of_each;
+use crate::printed;
+use crate::printed_case;
+use crate::tariff_of;
+use crate::with_fee;
+use terms::Factor;
+use terms::Tariff;
+
+pub fn edges() {
+    entries();
+    one_period();
+    alike();
+    scenes();
+}
+
+// Two buckets for three periods, and three with fee 3.
+fn entries() {
+    let trace: [u16; 3] = [4, 8, 2];
+    edge_in(b"4,8,2 in lists of 3", &trace, printed_case(), of_each(3));
+    edge_in(b"4,8,2 in lists of 6", &trace, printed_case(), of_each(6));
+    edge_in(
+        b"4,8,2 in lists of 3, 4 and 6",
+        &trace,
+        printed_case(),
+        lent(3, 4, 6),
+    );
+    edge_in(
+        b"4,8,2 with fee 3 in lists of 3",
+        &trace,
+        with_fee(3),
+        of_each(3),
+    );
+    edge_in(
+        b"4,8,2 with fee 3 in lists of 6",
+        &trace,
+        with_fee(3),
+        of_each(6),
+    );
+}
+
+fn one_period() {
+    let none: [u16; 1] = [0];
+    let most: [u16; 1] = [65_535];
+    let whole = Factor { p: 1, q: 1 };
+    edge_in(b"0", &none, printed_case(), of_each(1));
+    edge_in(b"65535", &most, printed_case(), of_each(1));
+    edge(
+        b"65535 full at depth cap 61440",
+        &most,
+        tariff_of(
+            printed(),
+            whole,
+            Caps {
+                rate: 4095,
+                depth: 61_440,
+            },
+        ),
+    );
+    edge(
+        b"65535 full at depth cap 61439",
+        &most,
+        tariff_of(
+            printed(),
+            whole,
+            Caps {
+                rate: 4095,
+                depth: 61_439,
+            },
+        ),
+    );
+}
+
+// 512 periods of one demand each.
+fn alike() {
+    let none = [0u16; 512];
+    let few = [3u16; 512];
+    let most = [65_535u16; 512];
+    edge_in(b"512 periods of 0", &none, printed_case(), of_each(512));
+    edge_in(
+        b"512 periods of 3 at fee 0",
+        &few,
+        with_fee(0),
+        of_each(512),
+    );
+    edge(b"512 periods of 65535, prices 0", &most, only_fee());
+    edge(
+        b"512 periods of 65535, prices and fee at their limits",
+        &most,
+        dearest(),
+    );
+}
+
+// Prices 0, so that the fewest buckets decide and then the longer runs, and factor 2/3.
+fn only_fee() -> Tariff {
+    let prices = Prices {
+        rate: 0,
+        depth: 0,
+        fee: 4,
+    };
+    tariff_of(prices, Factor { p: 2, q: 3 }, full())
+}
+
+// The greatest prices and fee, and full buckets.
+fn dearest() -> Tariff {
+    let prices = Prices {
+        rate: 65_535,
+        depth: 65_535,
+        fee: 1_000_000_000,
+    };
+    tariff_of(prices, Factor { p: 1, q: 1 }, full())
+}
+
+// 512 periods whose demands rise and fall, at rate cap 4,095.
+fn scenes() {
+    let trace = scenes_of_32();
+    edge(b"512 periods of scenes", &trace, printed_case());
+    edge(
+        b"512 periods of scenes with fee 20000",
+        &trace,
+        with_fee(20_000),
+    );
+}
+
+// Scenes of 32 periods, each with a demand of its own and a peak in every seventh period.
+fn scenes_of_32() -> [u16; 512] {
+    let mut trace = [0u16; 512];
+    for i in 0..512 {
+        trace[i] = demand(i / 32, i % 7);
+    }
+    trace
+}
+
+fn demand(scene: usize, step: usize) -> u16 {
+    let base = scene % 16 * 389 % 1500;
+    if step == 0 {
+        return (base + 900) as u16;
+    }
+    (base + 40) as u16
+}

@@ -1,0 +1,109 @@
+// Each refusal, and the lowest number where several apply.
+use crate::Caps;
+use crate::Prices;
+use crate::from_empty;
+use crate::full;
+use crate::half;
+use crate::lists::edge;
+use crate::lists::edge_in;
+use crate::lists::lent;
+use crate::lists::of_each;
+use crate::printed;
+use crate::printed_case;
+use crate::tariff_of;
+use terms::Factor;
+
+const CASE: [u16; 3] = [4, 8, 2];
+
+pub fn edges() {
+    periods();
+    figures();
+    short_lists();
+    no_cutting();
+}
+
+// A trace of no period, and one of a period too many.
+fn periods() {
+    let trace = [1u16; 513];
+    let bad = tariff_of(printed(), Factor { p: 1, q: 0 }, full());
+    edge(b"0 periods", &trace[..0], printed_case());
+    edge(b"513 periods", &trace, printed_case());
+    edge(b"0 periods and q 0", &trace[..0], bad);
+    edge_in(
+        b"513 periods, q 0 and lists of 512",
+        &trace,
+        bad,
+        of_each(512),
+    );
+}
+
+// Each figure of the tariff one past its limit.
+fn figures() {
+    priced(b"rate price 65536", 65_536, 1, 4);
+    priced(b"depth price 65536", 2, 65_536, 4);
+    priced(b"fee 1000000001", 2, 1, 1_000_000_001);
+    started(b"factor 0/0", 0, 0);
+    started(b"factor 3/2", 3, 2);
+    started(b"factor 1/1001", 1, 1001);
+    capped(b"rate cap 4096", 4096, 1_000_000);
+    capped(b"depth cap 1000001", 4095, 1_000_001);
+}
+
+fn priced(name: &[u8], rate: u32, depth: u32, fee: u32) {
+    let trace = CASE;
+    edge(
+        name,
+        &trace,
+        tariff_of(Prices { rate, depth, fee }, half(), full()),
+    );
+}
+
+fn started(name: &[u8], p: u32, q: u32) {
+    let trace = CASE;
+    edge(name, &trace, tariff_of(printed(), Factor { p, q }, full()));
+}
+
+fn capped(name: &[u8], rate: u32, depth: u32) {
+    let trace = CASE;
+    edge(
+        name,
+        &trace,
+        tariff_of(printed(), half(), Caps { rate, depth }),
+    );
+}
+
+// Lists of one entry less than the trace has periods.
+fn short_lists() {
+    let trace = CASE;
+    let good = printed_case();
+    let bad = tariff_of(printed(), Factor { p: 1, q: 0 }, full());
+    edge_in(b"runs one short", &trace, good, lent(2, 3, 3));
+    edge_in(b"rates one short", &trace, good, lent(3, 2, 3));
+    edge_in(b"depths one short", &trace, good, lent(3, 3, 2));
+    edge_in(b"lists of 0", &trace, good, of_each(0));
+    edge_in(b"q 0 and lists one short", &trace, bad, of_each(2));
+    let long = [1u16; 512];
+    edge_in(b"512 periods and lists of 511", &long, good, of_each(511));
+}
+
+// Nothing carries the trace inside the caps.
+fn no_cutting() {
+    let trace: [u16; 2] = [8, 2];
+    let tariff = from_empty(4);
+    edge(b"8,2 from empty", &trace, tariff);
+    edge_in(
+        b"8,2 from empty in lists one short",
+        &trace,
+        tariff,
+        of_each(1),
+    );
+    capped(b"caps 0 and 0", 0, 0);
+    let mut long = [1u16; 512];
+    long[511] = 5;
+    let caps = Caps { rate: 1, depth: 3 };
+    edge(
+        b"511 periods of 1 and a last of 5",
+        &long,
+        tariff_of(printed(), Factor { p: 1, q: 1 }, caps),
+    );
+}
