@@ -31,17 +31,21 @@ abbrev pub outlineOf : Tariff → Answer Cutting → Outline
 outlineOf t (figures xs) = record { cost = trueCost t xs; buckets = length xs; first = firstRun runLength xs }
 outlineOf t (refused n) = noOutline
 
--- The new one is of a cutting, and costs less than the old one, or the same with no more buckets.
+-- The new one costs less than the old one, or the same with no more buckets.
 abbrev pub betters : Outline → Outline → Bool
-betters new old = ltb (new .cost) unpriced && (ltb (new .cost) (old .cost) || eqb (new .cost) (old .cost) && leb (new .buckets) (old .buckets))
+betters new old = ltb (new .cost) (old .cost) || eqb (new .cost) (old .cost) && leb (new .buckets) (old .buckets)
 
 unfoldable pub betterOutline : Outline → Outline → Outline
 betterOutline old new = cond (betters new old) new old
+
+-- … and where the new one is that of no cutting it is passed over.
+unfoldable pub orBetter : Outline → Outline → Outline
+orBetter old new = cond (leb unpriced (new .cost)) old (betterOutline old new)
 
 -- The best of those that begin with a run of 1, 2, .. or k periods. The lists hold, by the length of the run, its price and
 -- the cost and the buckets of the best cutting of what is left.
 unfoldable pub firstOutline : List ℕ → List ℕ → List ℕ → ℕ → Outline
 firstOutline prices costs counts zero = noOutline
 firstOutline prices costs counts (suc k) =
-    betterOutline (firstOutline prices costs counts k)
+    orBetter (firstOutline prices costs counts k)
     (record { cost = getD prices k 0 + getD costs k 0; buckets = getD counts k 0 + 1; first = suc k })

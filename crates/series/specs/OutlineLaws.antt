@@ -27,7 +27,7 @@ use Rattle.series.specs.Cutting.{FirstRun, none, run, total, longer, win
 use Rattle.series.specs.CuttingLaws.{Within, IsBest, Rests, first-is}
 use Rattle.series.specs.Series.{Cutting, runLength, runCost, trueCost, ServesRun, Carried, preferred, recordOf, runRecord}
 use Rattle.series.specs.SeriesLaws.{IsSeries, run-offered}
-use Rattle.series.specs.Outline.{unpriced, priceOf, outlineOf, betterOutline, firstOutline}
+use Rattle.series.specs.Outline.{unpriced, priceOf, outlineOf, betterOutline, orBetter, firstOutline}
 
 -- ---- Costs and counts are bounded by the periods
 
@@ -85,18 +85,18 @@ module _ (t : Tariff) where
   UpTo k (refused n) = Unit {0}
 
   better-found : (k : ℕ) (a : Answer Cutting) (x : BucketRecord) (xs : Cutting) → UpTo k a → k < runLength x → trueCost t (x ∷ xs) < unpriced
-      → betterOutline (outlineOf t a) (outlineOf t (figures (x ∷ xs))) ≡ outlineOf t (choose (preferred t) a (figures (x ∷ xs)))
-  unfolding betterOutline
-  better-found k (refused n) x xs u l c = rw (lt-ltb (trueCost t (x ∷ xs)) unpriced c)
-  better-found k (figures ys) x xs u l c = rw (lt-ltb (trueCost t (x ∷ xs)) unpriced c, later-wins x xs ys (omega arith)) (go (preferred t (x ∷ xs) ys))
+      → orBetter (outlineOf t a) (outlineOf t (figures (x ∷ xs))) ≡ outlineOf t (choose (preferred t) a (figures (x ∷ xs)))
+  unfolding orBetter betterOutline
+  better-found k (refused n) x xs u l c = rw (lt-leb unpriced (trueCost t (x ∷ xs)) c, lt-ltb (trueCost t (x ∷ xs)) unpriced c)
+  better-found k (figures ys) x xs u l c = rw (lt-leb unpriced (trueCost t (x ∷ xs)) c, later-wins x xs ys (omega arith)) (go (preferred t (x ∷ xs) ys))
     where
       go : (b : Bool) → cond b (outlineOf t (figures (x ∷ xs))) (outlineOf t (figures ys)) ≡ outlineOf t (cond b (figures (x ∷ xs)) (figures ys))
       go true = refl
       go false = refl
 
-  better-none : (old new : Outline) → unpriced ≤ new .cost → betterOutline old new ≡ old
-  unfolding betterOutline
-  better-none old new l = rw (le-ltb (new .cost) unpriced l)
+better-none : (old new : Outline) → unpriced ≤ new .cost → orBetter old new ≡ old
+unfolding orBetter
+better-none old new l = rw (le-leb unpriced (new .cost) l)
 
 -- ---- The outline of the best cutting by its first run
 
@@ -125,11 +125,11 @@ module _ (t : Tariff) (h : TariffRange t) (ds : List ℕ) (few : length ds ≤ t
           carried-below t h few (run f (i .kind))
 
     better-step : (b : Answer Cutting) → UpTo t k b → (a : Answer Priced) → IsSingle t (take (suc k) ds) a → (r : Answer Cutting) → IsSeries t (drop (suc k) ds) r
-        → betterOutline (outlineOf t b) (outlined t (suc k) a r) ≡ outlineOf t (choose (preferred t) b (joined (recordOf (suc k) a) r))
-    better-step b u (refused n) s r i = better-none t (outlineOf t b) (outlined t (suc k) (refused n) r) (omega arith)
-    better-step b u (figures p) s (refused n) i = better-none t (outlineOf t b) (outlined t (suc k) (figures p) (refused n)) (omega arith)
+        → orBetter (outlineOf t b) (outlined t (suc k) a r) ≡ outlineOf t (choose (preferred t) b (joined (recordOf (suc k) a) r))
+    better-step b u (refused n) s r i = better-none (outlineOf t b) (outlined t (suc k) (refused n) r) (omega arith)
+    better-step b u (figures p) s (refused n) i = better-none (outlineOf t b) (outlined t (suc k) (figures p) (refused n)) (omega arith)
     better-step b u (figures p) s (figures xs) i =
-        ap (betterOutline (outlineOf t b)) (both-outlined p s xs i) ∙ better-found t k b (bucketFor p) xs u (omega arith) (both-below p s xs i)
+        ap (orBetter (outlineOf t b)) (both-outlined p s xs i) ∙ better-found t k b (bucketFor p) xs u (omega arith) (both-below p s xs i)
 
   -- What the lists hold, by the length of the first run less 1: its price, and the outline of the best cutting of what is left.
   pub record Lists (rests : List (Answer Cutting)) (prices costs counts : List ℕ) : Type 0 where
@@ -158,7 +158,7 @@ module _ (t : Tariff) (h : TariffRange t) (ds : List ℕ) (few : length ds ≤ t
         let r = getD rests k (refused 7) in
         let b = bestFirst runLength (runCost t) (runRecord t) ds rests k in
         let m : k ≤ length ds = omega arith in
-        ap (λ (o : Outline). betterOutline o (record { cost = getD prices k 0 + getD costs k 0; buckets = getD counts k 0 + 1; first = suc k })) (first-outline k m)
-        ∙ ap (betterOutline (outlineOf t b)) (new-outline k l)
+        ap (λ (o : Outline). orBetter o (record { cost = getD prices k 0 + getD costs k 0; buckets = getD counts k 0 + 1; first = suc k })) (first-outline k m)
+        ∙ ap (orBetter (outlineOf t b)) (new-outline k l)
         ∙ better-step k l b (up-to k b (first-is runLength (runCost t) (ServesRun t) (runRecord t) (run-offered t) ds rests bests k m)) a (cheapest-is t (take (suc k) ds)) r (bests k l)
         ∙ ap (λ (n : ℕ). outlineOf t (choose (preferred t) b (joined (recordOf n a) r))) (sym (length-take-le (suc k) ds l))

@@ -17,6 +17,7 @@ pub struct Outline {
 
 // The best of the cuttings that begin with a run of 1, 2, 3, .. periods. The lists hold, by the
 // length of that run, its price and the cost and the buckets of the best cutting of what is left.
+// A length without a bucket, or with no cutting of what is left, is passed over.
 pub fn best_first(prices: &[u64], costs: &[u64], counts: &[u32]) -> Outline
     requires { ⌜ OutlineRange (now prices) (now costs) (now counts) ⌝ }
     ensures { λ r. ⌜ r ≡ firstOutline (now (prices .entry)) (now (costs .entry)) (now (counts .entry)) (length (now (costs .entry))) ⌝ }
@@ -26,11 +27,15 @@ pub fn best_first(prices: &[u64], costs: &[u64], counts: &[u32]) -> Outline
         buckets: 0,
         first: 0,
     };
+    let end = costs.len();
     let mut i = 0;
-    while i < costs.len() {
+    while i < end {
         let cost = prices[i] + costs[i];
         let buckets = counts[i] + 1;
         i += 1;
+        if UNPRICED <= cost {
+            continue;
+        }
         best = better_of(
             best,
             Outline {
@@ -48,7 +53,7 @@ fn better_of(old: Outline, new: Outline) -> Outline
     ensures { λ r. ⌜ r ≡ betterOutline old new ⌝ }
 {
     let fewer = (new.cost == old.cost) & (new.buckets <= old.buckets);
-    if (new.cost < UNPRICED) & ((new.cost < old.cost) | fewer) {
+    if (new.cost < old.cost) | fewer {
         return new;
     }
     old
