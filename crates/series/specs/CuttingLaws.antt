@@ -1,5 +1,5 @@
 -- The best cutting is the best of all: it is one, and no other wins over it, whatever is chosen for the runs; and it is
--- missing exactly when there is none. It rests on each run's offer being the cheapest choice that fits the run.
+-- missing exactly when there is none. It rests on `choice` giving each run the cheapest that fits it.
 -- By induction from the end: among the cuttings that begin with one run the best goes on with the best of what is left.
 -- Assumes nothing.
 use Prim.Native.Nat.{ℕ, zero, suc, _≤_}
@@ -108,14 +108,14 @@ module _ {X : Type 0} (periods price : X → ℕ) (Fits : List ℕ → X → Typ
   cut-none none = refl
 
   -- x is the cheapest choice that fits the run.
-  pub record Offered (ds : List ℕ) (x : X) : Type 0 where
+  pub record Chosen (ds : List ℕ) (x : X) : Type 0 where
     pub whole : periods x ≡ length ds
     pub fits : Fits ds x
     pub least : (y : X) → periods y ≡ length ds → Fits ds y → price x ≤ price y
 
-  abbrev pub IsOffer : List ℕ → Answer X → Type 0
-  IsOffer ds (figures x) = Offered ds x
-  IsOffer ds (refused n) = (n ≡ 7) × ((x : X) → Fits ds x → ⊥)
+  abbrev pub IsChoice : List ℕ → Answer X → Type 0
+  IsChoice ds (figures x) = Chosen ds x
+  IsChoice ds (refused n) = (n ≡ 7) × ((x : X) → Fits ds x → ⊥)
 
   -- The cuttings whose first run has n periods, and those where it has at most n.
   record Begins (ds : List ℕ) (n : ℕ) (xs : List X) : Type 0 where
@@ -147,7 +147,7 @@ module _ {X : Type 0} (periods price : X → ℕ) (Fits : List ℕ → X → Typ
           subst (λ (n : ℕ). Cut (drop n ds) ys) (b .first) (c .1),
         )
 
-    best-joined : (a : Answer X) → IsOffer (take (suc k) ds) a → (r : Answer (List X)) → IsBest periods price (Cut (drop (suc k) ds)) r → IsBest periods price (Begins ds (suc k)) (joined a r)
+    best-joined : (a : Answer X) → IsChoice (take (suc k) ds) a → (r : Answer (List X)) → IsBest periods price (Cut (drop (suc k) ds)) r → IsBest periods price (Begins ds (suc k)) (joined a r)
     best-joined (figures x) o (figures xs) b = record { kind = begins x xs (o .whole) (o .fits) (b .kind); none-wins = beaten }
       where
         beaten : (ys : List X) → Begins ds (suc k) ys → wins periods price ys (x ∷ xs) ≡ false
@@ -184,15 +184,15 @@ module _ {X : Type 0} (periods price : X → ℕ) (Fits : List ℕ → X → Typ
   abbrev pub Rests : List ℕ → List (Answer (List X)) → Type 0
   Rests ds rests = (k : ℕ) → suc k ≤ length ds → IsBest periods price (Cut (drop (suc k) ds)) (getD rests k (refused 7))
 
-  module _ (offer : List ℕ → Answer X) (offers : (ds : List ℕ) → IsOffer ds (offer ds)) where
+  module _ (choice : List ℕ → Answer X) (choices : (ds : List ℕ) → IsChoice ds (choice ds)) where
     pub first-is : (ds : List ℕ) (rests : List (Answer (List X))) → Rests ds rests → (k : ℕ) → k ≤ length ds
-        → IsBest periods price (Within ds k) (bestFirst periods price offer ds rests k)
+        → IsBest periods price (Within ds k) (bestFirst periods price choice ds rests k)
     unfolding bestFirst
     first-is ds rests h zero l = (refl, λ xs w. omega (arith, w .some, w .first))
     first-is ds rests h (suc k) l =
         best-choose periods price (Within ds k) (Begins ds (suc k)) (Within ds (suc k)) (within-more ds k l) (begins-within ds k l) (within-either ds k l)
-        (bestFirst periods price offer ds rests k) (joined (offer (take (suc k) ds)) (getD rests k (refused 7)))
-        (first-is ds rests h k (omega arith)) (best-joined ds k l (offer (take (suc k) ds)) (offers (take (suc k) ds)) (getD rests k (refused 7)) (h k l))
+        (bestFirst periods price choice ds rests k) (joined (choice (take (suc k) ds)) (getD rests k (refused 7)))
+        (first-is ds rests h k (omega arith)) (best-joined ds k l (choice (take (suc k) ds)) (choices (take (suc k) ds)) (getD rests k (refused 7)) (h k l))
 
     -- Every cutting of some periods begins with a run of some of them.
     cut-within : (d : ℕ) (ds : List ℕ) (xs : List X) → Cut (d ∷ ds) xs → Within (d ∷ ds) (length (d ∷ ds)) xs
@@ -204,12 +204,12 @@ module _ {X : Type 0} (periods price : X → ℕ) (Fits : List ℕ → X → Typ
     none-of-none [] c = refl
     none-of-none (y ∷ ys) c = let f = cut-first c .0 in absurd (omega (arith, f .some, f .inside))
 
-    pub bests-are : (ds : List ℕ) (k : ℕ) → k ≤ length ds → IsBest periods price (Cut (drop k ds)) (getD (bests periods price offer ds) k (refused 7))
+    pub bests-are : (ds : List ℕ) (k : ℕ) → k ≤ length ds → IsBest periods price (Cut (drop k ds)) (getD (bests periods price choice ds) k (refused 7))
     unfolding bests
     bests-are [] zero l = record { kind = none; none-wins = none-of-none }
     bests-are [] (suc k) l = absurd (omega arith)
     bests-are (d ∷ ds) zero l =
         best-same periods price (Within (d ∷ ds) (length (d ∷ ds))) (Cut (d ∷ ds)) (λ xs w. w .cut) (cut-within d ds)
-        (bestFirst periods price offer (d ∷ ds) (bests periods price offer ds) (length (d ∷ ds)))
-        (first-is (d ∷ ds) (bests periods price offer ds) (λ k l. bests-are ds k (omega arith)) (length (d ∷ ds)) (le-refl _))
+        (bestFirst periods price choice (d ∷ ds) (bests periods price choice ds) (length (d ∷ ds)))
+        (first-is (d ∷ ds) (bests periods price choice ds) (λ k l. bests-are ds k (omega arith)) (length (d ∷ ds)) (le-refl _))
     bests-are (d ∷ ds) (suc k) l = bests-are ds k (omega arith)

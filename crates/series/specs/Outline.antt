@@ -14,7 +14,7 @@ use Rattle.series.specs.declared.outlines.Outline.{Outline}
 use Rattle.series.specs.Cutting.{firstRun}
 use Rattle.series.specs.Series.{Cutting, runLength, trueCost}
 
--- Stands for the cost where there is none.
+-- Stands for the cost where there is none. Every cost is below it (`OutlineLaws.carried-below`).
 abbrev pub unpriced : ℕ
 unpriced = 1000000000000000000
 

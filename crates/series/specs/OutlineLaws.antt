@@ -26,7 +26,7 @@ use Rattle.series.specs.declared.outlines.Outline.{Outline}
 use Rattle.series.specs.Cutting.{FirstRun, none, run, total, longer, wins, firstRun, joined, bestFirst}
 use Rattle.series.specs.CuttingLaws.{Within, IsBest, Rests, first-is}
 use Rattle.series.specs.Series.{Cutting, runLength, runCost, trueCost, ServesRun, Carried, preferred, recordOf, runRecord}
-use Rattle.series.specs.SeriesLaws.{IsSeries, run-offered}
+use Rattle.series.specs.SeriesLaws.{IsSeries, run-chosen}
 use Rattle.series.specs.Outline.{unpriced, priceOf, outlineOf, betterOutline, orBetter, firstOutline}
 
 -- ---- Costs and counts are bounded by the periods
@@ -160,5 +160,5 @@ module _ (t : Tariff) (h : TariffRange t) (ds : List ℕ) (few : length ds ≤ t
         let m : k ≤ length ds = omega arith in
         ap (λ (o : Outline). orBetter o (record { cost = getD prices k 0 + getD costs k 0; buckets = getD counts k 0 + 1; first = suc k })) (first-outline k m)
         ∙ ap (orBetter (outlineOf t b)) (new-outline k l)
-        ∙ better-step k l b (up-to k b (first-is runLength (runCost t) (ServesRun t) (runRecord t) (run-offered t) ds rests bests k m)) a (cheapest-is t (take (suc k) ds)) r (bests k l)
+        ∙ better-step k l b (up-to k b (first-is runLength (runCost t) (ServesRun t) (runRecord t) (run-chosen t) ds rests bests k m)) a (cheapest-is t (take (suc k) ds)) r (bests k l)
         ∙ ap (λ (n : ℕ). outlineOf t (choose (preferred t) b (joined (recordOf n a) r))) (sym (length-take-le (suc k) ds l))

@@ -1,4 +1,4 @@
--- How the best cutting is put together: its first run's choice is that run's offer, and it goes on with the best cutting of
+-- How the best cutting is put together: its first run has its `choice`, and it goes on with the best cutting of
 -- what is left.
 -- Assumes nothing.
 use Prim.Native.Nat.{ℕ, zero, suc, _≤_, _<_}
@@ -37,16 +37,16 @@ parts (figures x) (figures xs) e = record { head = x; tail = xs; first = refl; o
 parts (figures x) (refused n) e = absurd (figures-refused (sym e))
 parts (refused n) rest e = absurd (figures-refused (sym e))
 
-module _ {X : Type 0} (periods price : X → ℕ) (offer : List ℕ → Answer X) where
-  -- The runs make up the periods, and each choice is the offer for its run.
+module _ {X : Type 0} (periods price : X → ℕ) (choice : List ℕ → Answer X) where
+  -- The runs make up the periods, and each has its `choice`.
   abbrev Matches : List ℕ → X → Type 0
-  Matches es x = offer es ≡ figures x
+  Matches es x = choice es ≡ figures x
 
-  abbrev pub Offers : List ℕ → List X → Type 0
-  Offers = Cuts periods Matches
+  abbrev pub Choices : List ℕ → List X → Type 0
+  Choices = Cuts periods Matches
 
   -- The best for what is left after n periods.
-  pub bests-at : (ds : List ℕ) (n : ℕ) → n ≤ length ds → getD (bests periods price offer ds) n (refused 7) ≡ best periods price offer (drop n ds)
+  pub bests-at : (ds : List ℕ) (n : ℕ) → n ≤ length ds → getD (bests periods price choice ds) n (refused 7) ≡ best periods price choice (drop n ds)
   unfolding bests
   bests-at ds zero l = refl
   bests-at [] (suc n) l = absurd (omega arith)
@@ -54,80 +54,80 @@ module _ {X : Type 0} (periods price : X → ℕ) (offer : List ℕ → Answer X
 
   -- The best from one period on, by the first run.
   pub best-from : (ds : List ℕ) (n : ℕ) → n < length ds
-      → best periods price offer (drop n ds) ≡ bestFirst periods price offer (drop n ds) (bests periods price offer (drop (suc n) ds)) (length (drop n ds))
+      → best periods price choice (drop n ds) ≡ bestFirst periods price choice (drop n ds) (bests periods price choice (drop (suc n) ds)) (length (drop n ds))
   unfolding bests
   best-from ds n l = rw (drop-cons ds n 0 l) refl
 
   -- The choice for some first run, and what follows it.
-  record Choice (ds : List ℕ) (rests : List (Answer (List X))) (k : ℕ) (ys : List X) : Type 0 where
+  record Made (ds : List ℕ) (rests : List (Answer (List X))) (k : ℕ) (ys : List X) : Type 0 where
     length : ℕ
     inside : suc length ≤ k
-    made : Parts (offer (take (suc length) ds)) (getD rests length (refused 7)) ys
+    made : Parts (choice (take (suc length) ds)) (getD rests length (refused 7)) ys
 
-  first-choice : (ds : List ℕ) (rests : List (Answer (List X))) (k : ℕ) {ys : List X} → bestFirst periods price offer ds rests k ≡ figures ys → Choice ds rests k ys
+  first-made : (ds : List ℕ) (rests : List (Answer (List X))) (k : ℕ) {ys : List X} → bestFirst periods price choice ds rests k ≡ figures ys → Made ds rests k ys
   unfolding bestFirst
-  first-choice ds rests zero e = absurd (figures-refused (sym e))
-  first-choice ds rests (suc k) e =
-      ⊎-elim (λ f. let c = first-choice ds rests k f in record { length = c .length; inside = omega (arith, c .inside); made = c .made })
-      (λ f. record { length = k; inside = omega arith; made = parts (offer (take (suc k) ds)) (getD rests k (refused 7)) f })
-      (choose-either (wins periods price) (bestFirst periods price offer ds rests k) (joined (offer (take (suc k) ds)) (getD rests k (refused 7))) e)
+  first-made ds rests zero e = absurd (figures-refused (sym e))
+  first-made ds rests (suc k) e =
+      ⊎-elim (λ f. let c = first-made ds rests k f in record { length = c .length; inside = omega (arith, c .inside); made = c .made })
+      (λ f. record { length = k; inside = omega arith; made = parts (choice (take (suc k) ds)) (getD rests k (refused 7)) f })
+      (choose-either (wins periods price) (bestFirst periods price choice ds rests k) (joined (choice (take (suc k) ds)) (getD rests k (refused 7))) e)
 
-  module _ (whole : (ds : List ℕ) (x : X) → offer ds ≡ figures x → periods x ≡ length ds) where
+  module _ (whole : (ds : List ℕ) (x : X) → choice ds ≡ figures x → periods x ≡ length ds) where
     -- The first run of the best cutting: its length, its choice and what follows it.
     pub record Runs (ds : List ℕ) (x : X) (xs : List X) : Type 0 where
       pub some : 1 ≤ periods x
       pub inside : periods x ≤ length ds
-      pub first : offer (take (periods x) ds) ≡ figures x
-      pub onward : best periods price offer (drop (periods x) ds) ≡ figures xs
+      pub first : choice (take (periods x) ds) ≡ figures x
+      pub onward : best periods price choice (drop (periods x) ds) ≡ figures xs
 
-    pub best-runs : (ds : List ℕ) (x : X) (xs : List X) → best periods price offer ds ≡ figures (x ∷ xs) → Runs ds x xs
+    pub best-runs : (ds : List ℕ) (x : X) (xs : List X) → best periods price choice ds ≡ figures (x ∷ xs) → Runs ds x xs
     unfolding bests
     best-runs [] x xs e = absurd (nil≢cons (same-figures e))
     best-runs (d ∷ ds) x xs e =
-        let c = first-choice (d ∷ ds) (bests periods price offer ds) (length (d ∷ ds)) e in
+        let c = first-made (d ∷ ds) (bests periods price choice ds) (length (d ∷ ds)) e in
         let n = suc (c .length) in
         let x-is : x ≡ c .made .head = head-eq-of-cons-eq (c .made .all) in
         let xs-is : xs ≡ c .made .tail = tail-eq-of-cons-eq (c .made .all) in
-        let taken : offer (take n (d ∷ ds)) ≡ figures x = c .made .first ∙ ap figures (sym x-is) in
-        let rest : best periods price offer (drop n (d ∷ ds)) ≡ figures xs = sym (bests-at ds (c .length) (omega (arith, c .inside))) ∙ c .made .onward ∙ ap figures (sym xs-is) in
+        let taken : choice (take n (d ∷ ds)) ≡ figures x = c .made .first ∙ ap figures (sym x-is) in
+        let rest : best periods price choice (drop n (d ∷ ds)) ≡ figures xs = sym (bests-at ds (c .length) (omega (arith, c .inside))) ∙ c .made .onward ∙ ap figures (sym xs-is) in
         let m : n ≡ periods x = sym (whole (take n (d ∷ ds)) x taken ∙ length-take-le n (d ∷ ds) (c .inside)) in
         record {
           some = omega arith;
           inside = omega (arith, c .inside);
-          first = subst (λ (i : ℕ). offer (take i (d ∷ ds)) ≡ figures x) m taken;
-          onward = subst (λ (i : ℕ). best periods price offer (drop i (d ∷ ds)) ≡ figures xs) m rest;
+          first = subst (λ (i : ℕ). choice (take i (d ∷ ds)) ≡ figures x) m taken;
+          onward = subst (λ (i : ℕ). best periods price choice (drop i (d ∷ ds)) ≡ figures xs) m rest;
         }
 
-    pub best-of-none : (ds : List ℕ) → best periods price offer ds ≡ figures [] → ds ≡ []
+    pub best-of-none : (ds : List ℕ) → best periods price choice ds ≡ figures [] → ds ≡ []
     unfolding bests
     best-of-none [] e = refl
-    best-of-none (d ∷ ds) e = absurd (nil≢cons (first-choice (d ∷ ds) (bests periods price offer ds) (length (d ∷ ds)) e .made .all))
+    best-of-none (d ∷ ds) e = absurd (nil≢cons (first-made (d ∷ ds) (bests periods price choice ds) (length (d ∷ ds)) e .made .all))
 
-    -- Each choice is the offer for its run.
-    pub best-offers : (ds : List ℕ) (xs : List X) → best periods price offer ds ≡ figures xs → Offers ds xs
-    best-offers ds [] e = subst (λ (es : List ℕ). Offers es []) (sym (best-of-none ds e)) none
-    best-offers ds (x ∷ xs) e =
+    -- Each run has its `choice`.
+    pub best-choices : (ds : List ℕ) (xs : List X) → best periods price choice ds ≡ figures xs → Choices ds xs
+    best-choices ds [] e = subst (λ (es : List ℕ). Choices es []) (sym (best-of-none ds e)) none
+    best-choices ds (x ∷ xs) e =
         let k = best-runs ds x xs e in
         let f : FirstRun periods Matches ds x = record { some = k .some; inside = k .inside; fits = k .first } in
-        run f (best-offers (drop (periods x) ds) xs (k .onward))
+        run f (best-choices (drop (periods x) ds) xs (k .onward))
 
-  -- Of two different cuttings whose choices are the offers one wins.
-  offers-same : (ds : List ℕ) (xs ys : List X) → Offers ds xs → Offers ds ys → longer periods xs ys ≡ false → longer periods ys xs ≡ false → xs ≡ ys
+  -- Of two different cuttings with such choices one wins.
+  choices-same : (ds : List ℕ) (xs ys : List X) → Choices ds xs → Choices ds ys → longer periods xs ys ≡ false → longer periods ys xs ≡ false → xs ≡ ys
   unfolding longer
-  offers-same ds [] [] c d h k = refl
-  offers-same ds [] (y ∷ ys) c d h k = absurd (true≢false k)
-  offers-same ds (x ∷ xs) [] c d h k = absurd (true≢false h)
-  offers-same ds (x ∷ xs) (y ∷ ys) c d h k =
+  choices-same ds [] [] c d h k = refl
+  choices-same ds [] (y ∷ ys) c d h k = absurd (true≢false k)
+  choices-same ds (x ∷ xs) [] c d h k = absurd (true≢false h)
+  choices-same ds (x ∷ xs) (y ∷ ys) c d h k =
       let s = smaller-same (periods y) (periods x) (longer periods xs ys) (longer periods ys xs) h k in
       let f = cut-first periods price Matches c in
       let g = cut-first periods price Matches d in
-      let e : x ≡ y = same-figures (sym (f .0 .fits) ∙ ap (λ (n : ℕ). offer (take n ds)) (sym (s .0)) ∙ g .0 .fits) in
+      let e : x ≡ y = same-figures (sym (f .0 .fits) ∙ ap (λ (n : ℕ). choice (take n ds)) (sym (s .0)) ∙ g .0 .fits) in
       ap (λ (z : X). z ∷ xs) e
-      ∙ ap (λ (zs : List X). y ∷ zs) (offers-same (drop (periods y) ds) xs ys (subst (λ (n : ℕ). Offers (drop n ds) xs) (sym (s .0)) (f .1)) (g .1) (s .1) (s .2))
+      ∙ ap (λ (zs : List X). y ∷ zs) (choices-same (drop (periods y) ds) xs ys (subst (λ (n : ℕ). Choices (drop n ds) xs) (sym (s .0)) (f .1)) (g .1) (s .1) (s .2))
 
-  pub offers-only : (ds : List ℕ) (xs ys : List X) → Offers ds xs → Offers ds ys → wins periods price xs ys ≡ false → wins periods price ys xs ≡ false → xs ≡ ys
+  pub choices-only : (ds : List ℕ) (xs ys : List X) → Choices ds xs → Choices ds ys → wins periods price xs ys ≡ false → wins periods price ys xs ≡ false → xs ≡ ys
   unfolding wins
-  offers-only ds xs ys c d h k =
+  choices-only ds xs ys c d h k =
       let a = smaller-same (total price xs) (total price ys) _ _ h k in
       let b = smaller-same (length xs) (length ys) _ _ (a .1) (a .2) in
-      offers-same ds xs ys c d (b .1) (b .2)
+      choices-same ds xs ys c d (b .1) (b .2)

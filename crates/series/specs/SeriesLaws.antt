@@ -19,26 +19,26 @@ use Rattle.single.specs.declared.costs.Priced.{Priced}
 use Rattle.single.specs.Cost.{costOf}
 use Rattle.single.specs.Single.{cheapestOf}
 use Rattle.single.specs.SingleLaws.{IsSingle, cheapest-is, cheapest-least}
-use Rattle.series.specs.CuttingLaws.{IsBest, IsOffer, not-wins-cost, bests-are}
-use Rattle.series.specs.RunLaws.{Offers, best-offers, offers-only}
+use Rattle.series.specs.CuttingLaws.{IsBest, IsChoice, not-wins-cost, bests-are}
+use Rattle.series.specs.RunLaws.{Choices, best-choices, choices-only}
 use Rattle.series.specs.Series.{Cutting, runLength, runCost, trueCost, ServesRun, Carried, preferred, recordOf, runRecord, cheapestCut, seriesOf}
 
 module _ (t : Tariff) where
   -- ---- A run's record
 
   -- The single bucket is the cheapest choice for its run.
-  offered : (ds : List ℕ) (a : Answer Priced) → IsSingle t ds a → IsOffer runLength (runCost t) (ServesRun t) ds (recordOf (length ds) a)
-  offered ds (figures x) k =
+  chosen : (ds : List ℕ) (a : Answer Priced) → IsSingle t ds a → IsChoice runLength (runCost t) (ServesRun t) ds (recordOf (length ds) a)
+  chosen ds (figures x) k =
       record {
         whole = refl;
         fits = k .serves;
         least = λ y e s.
             subst (λ (c : ℕ). c ≤ runCost t y) (k .paid) (subst (λ (n : ℕ). x .cost ≤ costOf t n (y .bucket)) (sym e) (cheapest-least t ds k (y .bucket) s));
       }
-  offered ds (refused n) k = (k .0, λ y s. k .1 (y .bucket) s)
+  chosen ds (refused n) k = (k .0, λ y s. k .1 (y .bucket) s)
 
-  pub run-offered : (run : List ℕ) → IsOffer runLength (runCost t) (ServesRun t) run (runRecord t run)
-  run-offered run = offered run (cheapestOf t run) (cheapest-is t run)
+  pub run-chosen : (run : List ℕ) → IsChoice runLength (runCost t) (ServesRun t) run (runRecord t run)
+  run-chosen run = chosen run (cheapestOf t run) (cheapest-is t run)
 
   -- Its length is the run's.
   pub record-whole : (run : List ℕ) (x : BucketRecord) → runRecord t run ≡ figures x → runLength x ≡ length run
@@ -52,7 +52,7 @@ module _ (t : Tariff) where
 
   -- Each bucket is the single answer for its run.
   abbrev pub Singles : List ℕ → Cutting → Type 0
-  Singles = Offers runLength (runCost t) (runRecord t)
+  Singles = Choices runLength (runCost t) (runRecord t)
 
   -- xs is the series answer for the trace.
   pub record Cheapest (ds : List ℕ) (xs : Cutting) : Type 0 where
@@ -69,14 +69,14 @@ module _ (t : Tariff) where
 
   module _ (ds : List ℕ) where
     pub series-is : IsSeries ds (cheapestCut t ds)
-    series-is = bests-are runLength (runCost t) (ServesRun t) (runRecord t) run-offered ds 0 (omega arith)
+    series-is = bests-are runLength (runCost t) (ServesRun t) (runRecord t) run-chosen ds 0 (omega arith)
 
     cut-cheapest : (xs : Cutting) → cheapestCut t ds ≡ figures xs → Cheapest ds xs
     cut-cheapest xs e =
         let b = subst (IsSeries ds) e series-is in
         record {
           carried = b .kind;
-          singles = best-offers runLength (runCost t) (runRecord t) record-whole ds xs e;
+          singles = best-choices runLength (runCost t) (runRecord t) record-whole ds xs e;
           cheapest = λ ys c. not-wins-cost runLength (runCost t) xs ys (b .none-wins ys c);
           none-preferred = b .none-wins;
         }
@@ -84,7 +84,7 @@ module _ (t : Tariff) where
     -- There is one such cutting only.
     pub series-only : (xs ys : Cutting) → Cheapest ds xs → Cheapest ds ys → xs ≡ ys
     series-only xs ys k l =
-        offers-only runLength (runCost t) (runRecord t) ds xs ys (k .singles) (l .singles) (l .none-preferred xs (k .carried)) (k .none-preferred ys (l .carried))
+        choices-only runLength (runCost t) (runRecord t) ds xs ys (k .singles) (l .singles) (l .none-preferred xs (k .carried)) (k .none-preferred ys (l .carried))
 
     -- ---- The call, with room for so many records
 

@@ -22,7 +22,7 @@ use Rattle.series.specs.Cutting.{bests, total}
 use Rattle.series.specs.CuttingLaws.{bests-are}
 use Rattle.series.specs.RunLaws.{bests-at}
 use Rattle.series.specs.Series.{Cutting, runLength, runCost, ServesRun, runRecord, cheapestCut, planOf}
-use Rattle.series.specs.SeriesLaws.{IsSeries, run-offered, series-is}
+use Rattle.series.specs.SeriesLaws.{IsSeries, run-chosen, series-is}
 use Rattle.series.specs.Outline.{unpriced, priceOf, outlineOf, firstOutline}
 use Rattle.series.specs.OutlineLaws.{carried-below, outline-cost, outline-count, first-outline}
 use Rattle.series.specs.OutlineRanges.{OutlineRange}
@@ -78,7 +78,7 @@ left-best t h [] few prices costs counts p k = absurd (omega (arith, k .some))
 left-best t h (d ∷ ds) few prices costs counts p k =
     let rests = bests runLength (runCost t) (runRecord t) ds in
     ap (firstOutline prices costs counts) (k .costs-all)
-    ∙ first-outline t h (d ∷ ds) few rests (λ n l. bests-are runLength (runCost t) (ServesRun t) (runRecord t) (run-offered t) ds n (omega arith)) prices costs counts
+    ∙ first-outline t h (d ∷ ds) few rests (λ n l. bests-are runLength (runCost t) (ServesRun t) (runRecord t) (run-chosen t) ds n (omega arith)) prices costs counts
     (record {
       price = λ i l. p .each i l ∙ ap (λ (n : ℕ). priceOf (cheapestOf t (take n (d ∷ ds)))) (add-one i);
       cost = λ i l. k .cost i l ∙ ap (λ (a : Answer Cutting). outlineOf t a .cost) (sym (bests-at runLength (runCost t) (runRecord t) ds i (omega arith)));

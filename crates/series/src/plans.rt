@@ -1,6 +1,7 @@
 // The series of buckets: the call that planners use.
 use crate::outlines::UNPRICED;
 use crate::records::record_runs;
+use crate::suffixes::ENTRIES;
 use crate::suffixes::cut_suffixes;
 use terms::Refusal;
 use terms::Tariff;
@@ -70,9 +71,9 @@ fn cheapest(
     ensures { λ _. ⌜ now (rates .exit) ≡ recorded runRate (cheapestCut tariff (now (trace .entry))) (now (rates .entry)) ⌝ }
     ensures { λ _. ⌜ now (depths .exit) ≡ recorded runDepth (cheapestCut tariff (now (trace .entry))) (now (depths .entry)) ⌝ }
 {
-    let mut costs = [0u64; 513];
-    let mut counts = [0u32; 513];
-    let mut firsts = [0u32; 513];
+    let mut costs = [0u64; ENTRIES];
+    let mut counts = [0u32; ENTRIES];
+    let mut firsts = [0u32; ENTRIES];
     cut_suffixes(trace, tariff, &mut costs, &mut counts, &mut firsts);
     let buckets = counts[0];
     let cost = costs[0];

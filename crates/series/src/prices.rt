@@ -8,6 +8,7 @@ use single::rates::rates_to_weigh;
 use terms::Bucket;
 use terms::Rate;
 use terms::Tariff;
+use terms::limits::TRACE_LIMIT;
 ghost use Prim.Native.Nat.{_+_, _≤_, min};
 ghost use mathlib.Core.Path.{_≡_};
 ghost use lib.ListN.{length};
@@ -21,12 +22,12 @@ ghost use Rattle.series.specs.Outline.{priceOf};
 ghost use Rattle.series.specs.PriceLaws.{Prices};
 
 // The cost of the single bucket for the first period, the first two, the first three and so on.
-pub fn prices_of(trace: &[u16], tariff: Tariff) -> [u64; 512]
+pub fn prices_of(trace: &[u16], tariff: Tariff) -> [u64; TRACE_LIMIT]
     requires { ⌜ length (now trace) ≤ traceLimit ⌝ }
     requires { ⌜ TariffRange tariff ⌝ }
     ensures { λ r. ⌜ Prices tariff (now (trace .entry)) (candidates tariff) r ⌝ }
 {
-    let mut prices = [UNPRICED; 512];
+    let mut prices = [UNPRICED; TRACE_LIMIT];
     let end = rates_to_weigh(trace, tariff);
     let mut next: u32 = 0;
     while next < end {

@@ -4,6 +4,7 @@ use crate::outlines::Outline;
 use crate::outlines::best_first;
 use crate::prices::prices_of;
 use terms::Tariff;
+use terms::limits::TRACE_LIMIT;
 ghost use Prim.Native.Nat.{_≤_};
 ghost use mathlib.Core.Path.{_≡_};
 ghost use lib.ListN.{length};
@@ -12,6 +13,9 @@ ghost use Rattle.terms.specs.RangeLaws.{TariffRange};
 ghost use Rattle.series.specs.Outline.{outlineOf};
 ghost use Rattle.series.specs.Series.{cheapestCut};
 ghost use Rattle.series.specs.SuffixLaws.{Kept, Left};
+
+// An entry for each period of the longest trace, and one for after its last.
+pub const ENTRIES: usize = TRACE_LIMIT + 1;
 
 // Fills the three lists from the last period to the first. After the last period nothing is left.
 pub fn cut_suffixes(
