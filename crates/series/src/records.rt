@@ -44,7 +44,7 @@ pub fn record_runs(
     }
 }
 
-// The single bucket of a run. The run has one, so the last line is never reached.
+// The single bucket of a run. The run has one, so the second arm is never taken.
 fn bucket_of(run: &[u16], tariff: Tariff) -> Bucket
     requires { ⌜ PeriodsRange (length (now run)) ⌝ }
     requires { ⌜ TariffRange tariff ⌝ }

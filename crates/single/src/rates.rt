@@ -1,5 +1,5 @@
-// The candidate rates: those that have to be weighed. Public only for this crate's search, which
-// shows what is required.
+// The candidate rates: those that have to be weighed. Public only for this crate's search and for
+// the crates above, which show what is required.
 use terms::Tariff;
 use terms::numbers::greater;
 use terms::numbers::lesser;
