@@ -1,15 +1,20 @@
 // Prints the lettered figures of document 01 as the calls give them.
 use bucket::MeterAnswer;
+use samples::tariffs::caps_of;
+use samples::tariffs::from_empty;
+use samples::tariffs::half;
+use samples::tariffs::prices_of;
+use samples::tariffs::printed_case;
+use samples::tariffs::tariff_of;
+use samples::tariffs::with_caps;
+use samples::tariffs::with_fee;
+use samples::traces::CASE;
 use terms::Bucket;
 use terms::BucketRecord;
 use terms::Depth;
-use terms::DepthPrice;
 use terms::Factor;
 use terms::Rate;
-use terms::RatePrice;
 use terms::Tariff;
-
-const CASE: [u16; 3] = [4, 8, 2];
 
 fn main() {
     row_a();
@@ -18,49 +23,24 @@ fn main() {
     row_d();
     rows_e_to_h();
     row_i();
-    printed_case();
+    printed_row();
     row_j();
     row_k();
 }
 
-// The printed case's tariff, with caps on rate and depth.
-fn printed(rate: u32, depth: u32) -> Tariff {
-    sold(4, Factor { p: 1, q: 2 }, rate, depth)
-}
-
-// The same with another fee.
-fn with_fee(fee: u32) -> Tariff {
-    sold(fee, Factor { p: 1, q: 2 }, 4095, 1_000_000)
-}
-
-// The printed case's prices, with a fee, a factor and caps on rate and depth.
-fn sold(fee: u32, factor: Factor, rate: u32, depth: u32) -> Tariff {
-    Tariff {
-        rate_price: RatePrice(2),
-        depth_price: DepthPrice(1),
-        fee,
-        factor,
-        rate_cap: Rate(rate),
-        depth_cap: Depth(depth),
-    }
-}
-
 // Row D's tariff, with caps on rate and depth.
 fn uneven(rate: u32, depth: u32) -> Tariff {
-    Tariff {
-        rate_price: RatePrice(7),
-        depth_price: DepthPrice(5),
-        fee: 0,
-        factor: Factor { p: 2, q: 3 },
-        rate_cap: Rate(rate),
-        depth_cap: Depth(depth),
-    }
+    tariff_of(
+        prices_of(7, 5, 0),
+        Factor { p: 2, q: 3 },
+        caps_of(rate, depth),
+    )
 }
 
 // 4, 8, 2 at rates 4, 5 and 6.
 fn row_a() {
     let trace = CASE;
-    let tariff = printed(4095, 1_000_000);
+    let tariff = printed_case();
     report::words(b"A");
     report::depth(depth::depth_at(&trace, Rate(4), tariff));
     report::words(b"A");
@@ -73,18 +53,18 @@ fn row_a() {
 fn row_b() {
     let trace = CASE;
     report::words(b"B");
-    report::depth(depth::depth_at(&trace, Rate(5), printed(4095, 4)));
+    report::depth(depth::depth_at(&trace, Rate(5), with_caps(4095, 4)));
     report::words(b"B");
-    report::depth(depth::depth_at(&trace, Rate(5), printed(4095, 3)));
+    report::depth(depth::depth_at(&trace, Rate(5), with_caps(4095, 3)));
 }
 
 // The single bucket, and the other of equal cost, which a depth cap of 3 leaves.
 fn row_c() {
     let trace = CASE;
     report::words(b"C");
-    report::single(single::single(&trace, printed(4095, 1_000_000)));
+    report::single(single::single(&trace, printed_case()));
     report::words(b"C");
-    report::single(single::single(&trace, printed(4095, 3)));
+    report::single(single::single(&trace, with_caps(4095, 3)));
 }
 
 // The single bucket, and then caps that leave only rate 0, 1 and 2.
@@ -105,16 +85,15 @@ fn rows_e_to_h() {
     let trace = CASE;
     let later: [u16; 2] = [2, 8];
     let sooner: [u16; 2] = [8, 2];
-    let empty = sold(4, Factor { p: 0, q: 1 }, 5, 10);
     series_row(b"E", &trace, with_fee(10));
     series_row(b"F", &trace, with_fee(3));
-    series_row(b"G", &later, empty);
-    series_row(b"H", &sooner, empty);
+    series_row(b"G", &later, from_empty(4));
+    series_row(b"H", &sooner, from_empty(4));
 }
 
-fn printed_case() {
+fn printed_row() {
     let trace = CASE;
-    series_row(b"printed", &trace, with_fee(4));
+    series_row(b"printed", &trace, printed_case());
 }
 
 // The series of at most three periods, and each of its buckets.
@@ -145,7 +124,7 @@ fn bucket_of(periods: u32, rate: u32, depth: u32) {
 fn row_i() {
     let trace: [u16; 1] = [0];
     report::words(b"I");
-    report::single(single::single(&trace, printed(4095, 1_000_000)));
+    report::single(single::single(&trace, printed_case()));
 }
 
 // A meter of rate 5 and depth 4, offered 4, 8, 2 and 9: sent, over, lost, tokens held.
@@ -156,7 +135,7 @@ fn row_j() {
             rate: Rate(5),
             depth: Depth(4),
         },
-        Factor { p: 1, q: 2 },
+        half(),
     );
     match a {
         MeterAnswer::Opened(m) => {
@@ -187,7 +166,7 @@ fn row_k() {
             rate: Rate(5),
             depth: Depth(3),
         },
-        Factor { p: 1, q: 2 },
+        half(),
         &trace,
     ));
 }

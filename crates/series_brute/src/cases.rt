@@ -8,18 +8,19 @@ use crate::lists::Lists;
 use crate::lists::before;
 use crate::lists::recorded;
 use crate::lists::same_lists;
-use crate::tariffs::Small;
-use crate::tariffs::small_tariff;
-use crate::tariffs::tariff_of;
+use samples::small::Small;
+use samples::small::demand;
+use samples::small::small_tariff;
+use samples::small::tariff_of;
 use series::SeriesAnswer;
 use series::series;
 
-// Case n: one of the 780 traces of one to four demands, and a tariff.
+// Case n: one of the 780 traces of one to four demands, one of the 180 tariffs, and a fee.
 pub fn agrees(n: u32) -> bool {
     let m = n % 780;
     let k = among_its_length(m);
     let trace: [u16; 4] = [demand(k), demand(k / 5), demand(k / 25), demand(k / 125)];
-    let small = small_tariff(n / 780);
+    let small = small_tariff(n / 780, fee(n / 140_400));
     match periods(m) {
         1 => agrees_on(&trace[..1], small),
         2 => agrees_on(&trace[..2], small),
@@ -50,9 +51,12 @@ fn among_its_length(m: u32) -> u32 {
     if m < 155 { m - 30 } else { m - 155 }
 }
 
-// A demand of 0 to 4.
-fn demand(n: u32) -> u16 {
-    (n % 5) as u16
+fn fee(n: u32) -> u8 {
+    match n {
+        0 => 0,
+        1 => 1,
+        _ => 3,
+    }
 }
 
 // Whether the call answers and leaves the lists as the preferred cutting does.

@@ -1,6 +1,6 @@
 // Every cutting of one to four periods, and the one that is preferred.
-use crate::plain::of_run;
-use crate::tariffs::Small;
+use crate::runs::of_run;
+use samples::small::Small;
 ghost use Prim.Native.Nat.{_≤_};
 
 // The lengths of the runs; 0 where there is no more run.

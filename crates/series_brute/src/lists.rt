@@ -1,8 +1,8 @@
 // The three lists that a call is lent: what they hold before it, and what a cutting records.
 use crate::cuttings::Cutting;
-use crate::plain::Best;
-use crate::plain::of_run;
-use crate::tariffs::Small;
+use crate::runs::of_run;
+use samples::plain::Best;
+use samples::small::Small;
 ghost use Prim.Native.Nat.{_<_};
 
 pub struct Lists {

@@ -2,8 +2,7 @@
 mod cases;
 mod cuttings;
 mod lists;
-mod plain;
-mod tariffs;
+mod runs;
 
 // One to four periods with demands 0 to 4, five factors, rate caps 0, 2 and 4, depth caps 0, 3 and
 // 9, four price lists, fees 0, 1 and 3.

@@ -1,13 +1,14 @@
 // Which cutting is chosen: of equal costs, and where a run cannot stand alone.
-use crate::Caps;
-use crate::Prices;
-use crate::from_empty;
-use crate::full;
-use crate::half;
 use crate::lists::edge;
-use crate::printed_case;
-use crate::tariff_of;
-use crate::with_fee;
+use samples::tariffs::caps_of;
+use samples::tariffs::from_empty;
+use samples::tariffs::half;
+use samples::tariffs::prices_of;
+use samples::tariffs::printed_case;
+use samples::tariffs::tariff_of;
+use samples::tariffs::with_fee;
+use samples::tariffs::with_prices;
+use samples::traces::CASE;
 
 pub fn edges() {
     free();
@@ -17,18 +18,12 @@ pub fn edges() {
 
 // Prices and fee 0: every cutting costs 0, so the fewest buckets decide.
 fn free() {
-    let trace: [u16; 3] = [4, 8, 2];
-    let none = Prices {
-        rate: 0,
-        depth: 0,
-        fee: 0,
-    };
-    edge(b"prices and fee 0", &trace, tariff_of(none, half(), full()));
-    let caps = Caps { rate: 0, depth: 16 };
+    let trace = CASE;
+    edge(b"prices and fee 0", &trace, with_prices(0, 0, 0));
     edge(
         b"prices and fee 0 at caps 0 and 16",
         &trace,
-        tariff_of(none, half(), caps),
+        tariff_of(prices_of(0, 0, 0), half(), caps_of(0, 16)),
     );
 }
 

@@ -1,15 +1,17 @@
 // Lists of as many entries as periods and of more, and traces of 1 and of 512 periods.
-use crate::Caps;
-use crate::Prices;
-use crate::full;
 use crate::lists::edge;
 use crate::lists::edge_in;
 use crate::lists::lent;
 use crate::lists::of_each;
-use crate::printed;
-use crate::printed_case;
-use crate::tariff_of;
-use crate::with_fee;
+use samples::tariffs::caps_of;
+use samples::tariffs::full;
+use samples::tariffs::prices_of;
+use samples::tariffs::printed;
+use samples::tariffs::printed_case;
+use samples::tariffs::tariff_of;
+use samples::tariffs::with_fee;
+use samples::traces::CASE;
+use samples::traces::scenes_of_32;
 use terms::Factor;
 use terms::Tariff;
 
@@ -22,7 +24,7 @@ pub fn edges() {
 
 // Two buckets for three periods, and three with fee 3.
 fn entries() {
-    let trace: [u16; 3] = [4, 8, 2];
+    let trace = CASE;
     edge_in(b"4,8,2 in lists of 3", &trace, printed_case(), of_each(3));
     edge_in(b"4,8,2 in lists of 6", &trace, printed_case(), of_each(6));
     edge_in(
@@ -54,26 +56,12 @@ fn one_period() {
     edge(
         b"65535 full at depth cap 61440",
         &most,
-        tariff_of(
-            printed(),
-            whole,
-            Caps {
-                rate: 4095,
-                depth: 61_440,
-            },
-        ),
+        tariff_of(printed(), whole, caps_of(4095, 61_440)),
     );
     edge(
         b"65535 full at depth cap 61439",
         &most,
-        tariff_of(
-            printed(),
-            whole,
-            Caps {
-                rate: 4095,
-                depth: 61_439,
-            },
-        ),
+        tariff_of(printed(), whole, caps_of(4095, 61_439)),
     );
 }
 
@@ -99,21 +87,12 @@ fn alike() {
 
 // Prices 0, so that the fewest buckets decide and then the longer runs, and factor 2/3.
 fn only_fee() -> Tariff {
-    let prices = Prices {
-        rate: 0,
-        depth: 0,
-        fee: 4,
-    };
-    tariff_of(prices, Factor { p: 2, q: 3 }, full())
+    tariff_of(prices_of(0, 0, 4), Factor { p: 2, q: 3 }, full())
 }
 
 // The greatest prices and fee, and full buckets.
 fn dearest() -> Tariff {
-    let prices = Prices {
-        rate: 65_535,
-        depth: 65_535,
-        fee: 1_000_000_000,
-    };
+    let prices = prices_of(65_535, 65_535, 1_000_000_000);
     tariff_of(prices, Factor { p: 1, q: 1 }, full())
 }
 
@@ -126,21 +105,4 @@ fn scenes() {
         &trace,
         with_fee(20_000),
     );
-}
-
-// Scenes of 32 periods, each with a demand of its own and a peak in every seventh period.
-fn scenes_of_32() -> [u16; 512] {
-    let mut trace = [0u16; 512];
-    for i in 0..512 {
-        trace[i] = demand(i / 32, i % 7);
-    }
-    trace
-}
-
-fn demand(scene: usize, step: usize) -> u16 {
-    let base = scene % 16 * 389 % 1500;
-    if step == 0 {
-        return (base + 900) as u16;
-    }
-    (base + 40) as u16
 }

@@ -1,19 +1,18 @@
 // Each refusal, and the lowest number where several apply.
-use crate::Caps;
-use crate::Prices;
-use crate::from_empty;
-use crate::full;
-use crate::half;
 use crate::lists::edge;
 use crate::lists::edge_in;
 use crate::lists::lent;
 use crate::lists::of_each;
-use crate::printed;
-use crate::printed_case;
-use crate::tariff_of;
+use samples::tariffs::caps_of;
+use samples::tariffs::from_empty;
+use samples::tariffs::printed;
+use samples::tariffs::printed_case;
+use samples::tariffs::tariff_of;
+use samples::tariffs::with_caps;
+use samples::tariffs::with_factor;
+use samples::tariffs::with_prices;
+use samples::traces::CASE;
 use terms::Factor;
-
-const CASE: [u16; 3] = [4, 8, 2];
 
 pub fn edges() {
     periods();
@@ -25,7 +24,7 @@ pub fn edges() {
 // A trace of no period, and one of a period too many.
 fn periods() {
     let trace = [1u16; 513];
-    let bad = tariff_of(printed(), Factor { p: 1, q: 0 }, full());
+    let bad = with_factor(1, 0);
     edge(b"0 periods", &trace[..0], printed_case());
     edge(b"513 periods", &trace, printed_case());
     edge(b"0 periods and q 0", &trace[..0], bad);
@@ -51,32 +50,24 @@ fn figures() {
 
 fn priced(name: &[u8], rate: u32, depth: u32, fee: u32) {
     let trace = CASE;
-    edge(
-        name,
-        &trace,
-        tariff_of(Prices { rate, depth, fee }, half(), full()),
-    );
+    edge(name, &trace, with_prices(rate, depth, fee));
 }
 
 fn started(name: &[u8], p: u32, q: u32) {
     let trace = CASE;
-    edge(name, &trace, tariff_of(printed(), Factor { p, q }, full()));
+    edge(name, &trace, with_factor(p, q));
 }
 
 fn capped(name: &[u8], rate: u32, depth: u32) {
     let trace = CASE;
-    edge(
-        name,
-        &trace,
-        tariff_of(printed(), half(), Caps { rate, depth }),
-    );
+    edge(name, &trace, with_caps(rate, depth));
 }
 
 // Lists of one entry less than the trace has periods.
 fn short_lists() {
     let trace = CASE;
     let good = printed_case();
-    let bad = tariff_of(printed(), Factor { p: 1, q: 0 }, full());
+    let bad = with_factor(1, 0);
     edge_in(b"runs one short", &trace, good, lent(2, 3, 3));
     edge_in(b"rates one short", &trace, good, lent(3, 2, 3));
     edge_in(b"depths one short", &trace, good, lent(3, 3, 2));
@@ -100,10 +91,10 @@ fn no_cutting() {
     capped(b"caps 0 and 0", 0, 0);
     let mut long = [1u16; 512];
     long[511] = 5;
-    let caps = Caps { rate: 1, depth: 3 };
+    let whole = Factor { p: 1, q: 1 };
     edge(
         b"511 periods of 1 and a last of 5",
         &long,
-        tariff_of(printed(), Factor { p: 1, q: 1 }, caps),
+        tariff_of(printed(), whole, caps_of(1, 3)),
     );
 }

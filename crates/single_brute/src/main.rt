@@ -1,6 +1,5 @@
 // The depth call and the single call against trials of every bucket, on every small case.
 mod cases;
-mod plain;
 
 // One to four periods with demands 0 to 4, five factors, rate caps 0, 2 and 4, depth caps 0, 3 and
 // 9, four price lists.

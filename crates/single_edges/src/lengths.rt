@@ -1,8 +1,7 @@
 // Traces of 0, 1, 2, 512 and 513 periods, and one with scenes.
-use crate::full;
-use crate::printed;
-use crate::tariff_of;
-use terms::Factor;
+use samples::tariffs::printed_case;
+use samples::tariffs::with_factor;
+use samples::traces::scenes_of_32;
 use terms::Rate;
 
 pub fn edges() {
@@ -23,7 +22,7 @@ fn flat(name: &[u8], demand: u16) {
 
 // The greatest rate that a tariff can allow, with full buckets.
 fn part(name: &[u8], periods: &[u8], trace: &[u16]) {
-    let tariff = tariff_of(printed(), Factor { p: 1, q: 1 }, full());
+    let tariff = with_factor(1, 1);
     report::words(name);
     report::words(periods);
     report::words(b", depth call:");
@@ -37,26 +36,8 @@ fn part(name: &[u8], periods: &[u8], trace: &[u16]) {
 // 512 periods whose demands rise and fall, at rate cap 4,095.
 fn scenes() {
     let trace = scenes_of_32();
-    let half = Factor { p: 1, q: 2 };
     report::words(b"512 periods of scenes, single call:");
-    report::single(single::single(&trace, tariff_of(printed(), half, full())));
+    report::single(single::single(&trace, printed_case()));
     report::words(b"512 periods of scenes, depth call:");
-    report::depth(depth::depth_at(&trace, Rate(1000), tariff_of(printed(), half, full())));
-}
-
-// Scenes of 32 periods, each with a demand of its own and a peak in every seventh period.
-fn scenes_of_32() -> [u16; 512] {
-    let mut trace = [0u16; 512];
-    for i in 0..512 {
-        trace[i] = demand(i / 32, i % 7);
-    }
-    trace
-}
-
-fn demand(scene: usize, step: usize) -> u16 {
-    let base = scene % 16 * 389 % 1500;
-    if step == 0 {
-        return (base + 900) as u16;
-    }
-    (base + 40) as u16
+    report::depth(depth::depth_at(&trace, Rate(1000), printed_case()));
 }

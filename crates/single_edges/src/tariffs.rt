@@ -1,10 +1,8 @@
 // Each figure of a tariff one past its limit, in both calls.
-use crate::Caps;
-use crate::Prices;
-use crate::full;
-use crate::printed;
-use crate::tariff_of;
-use terms::Factor;
+use samples::tariffs::with_caps;
+use samples::tariffs::with_factor;
+use samples::tariffs::with_prices;
+use samples::traces::CASE;
 use terms::Rate;
 use terms::Tariff;
 
@@ -15,7 +13,7 @@ pub fn edges() {
 }
 
 fn both(name: &[u8], tariff: Tariff) {
-    let trace: [u16; 3] = [4, 8, 2];
+    let trace = CASE;
     report::words(name);
     report::words(b", depth call:");
     report::depth(depth::depth_at(&trace, Rate(0), tariff));
@@ -25,10 +23,7 @@ fn both(name: &[u8], tariff: Tariff) {
 }
 
 fn priced(name: &[u8], rate: u32, depth: u32, fee: u32) {
-    both(
-        name,
-        tariff_of(Prices { rate, depth, fee }, Factor { p: 1, q: 2 }, full()),
-    );
+    both(name, with_prices(rate, depth, fee));
 }
 
 fn prices() {
@@ -45,7 +40,7 @@ fn prices() {
 }
 
 fn started(name: &[u8], p: u32, q: u32) {
-    both(name, tariff_of(printed(), Factor { p, q }, full()));
+    both(name, with_factor(p, q));
 }
 
 fn factors() {
@@ -59,10 +54,7 @@ fn factors() {
 }
 
 fn capped(name: &[u8], rate: u32, depth: u32) {
-    both(
-        name,
-        tariff_of(printed(), Factor { p: 1, q: 2 }, Caps { rate, depth }),
-    );
+    both(name, with_caps(rate, depth));
 }
 
 fn caps() {

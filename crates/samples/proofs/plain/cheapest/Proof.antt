@@ -1,8 +1,8 @@
 -- Each rate is weighed once; nothing is asked of what is found.
 use Prim.Native.Nat.{_-_, _≤_}
 use borrow.Author.Needs.{needs}
-use Rattle.series_brute.proofs.plain.cheapest.Statement.{statement}
-use Rattle.series_brute.proofs.plain.cheapest.Tie as tie
+use Rattle.samples.proofs.plain.cheapest.Statement.{statement}
+use Rattle.samples.proofs.plain.cheapest.Tie as tie
 
 abbrev Inv-loop : tie.InvT-loop
 Inv-loop trace small best₀ rate₀ rate-end best rate = rate ≤ rate-end

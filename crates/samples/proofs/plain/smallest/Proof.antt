@@ -1,8 +1,8 @@
 -- Each depth is weighed once.
 use Prim.Native.Nat.{_-_, _≤_}
 use borrow.Author.Needs.{needs}
-use Rattle.single_brute.proofs.plain.smallest.Statement.{statement}
-use Rattle.single_brute.proofs.plain.smallest.Tie as tie
+use Rattle.samples.proofs.plain.smallest.Statement.{statement}
+use Rattle.samples.proofs.plain.smallest.Tie as tie
 
 abbrev Inv-loop : tie.InvT-loop
 Inv-loop trace small rate depth₀ depth-end depth = depth ≤ depth-end

@@ -1,10 +1,10 @@
-// The small tariffs: five factors, three rate caps, three depth caps, four price lists and three
-// fees.
-use terms::Depth;
-use terms::DepthPrice;
+// The small cases: demands of 0 to 4, and tariffs of five factors, three rate caps, three depth
+// caps and four price lists.
+use crate::tariffs;
+use crate::tariffs::Prices;
+use crate::tariffs::caps_of;
+use crate::tariffs::prices_of;
 use terms::Factor;
-use terms::Rate;
-use terms::RatePrice;
 use terms::Tariff;
 ghost use Prim.Native.Nat.{_≤_};
 
@@ -17,22 +17,19 @@ pub struct Small {
     pub depth_cap: u8,
 }
 
-// Tariff n of the 540.
-pub fn small_tariff(n: u32) -> Small {
+// A demand of 0 to 4.
+pub fn demand(n: u32) -> u16 {
+    (n % 5) as u16
+}
+
+// A tariff with some fee: number n of 180.
+pub fn small_tariff(n: u32, fee: u8) -> Small {
     Small {
         prices: (n / 45 % 4) as u8,
-        fee: fee(n / 180 % 3),
+        fee,
         factor: factor(n % 5),
         rate_cap: (n / 5 % 3 * 2) as u8,
         depth_cap: depth_cap(n / 15 % 3),
-    }
-}
-
-fn fee(n: u32) -> u8 {
-    match n {
-        0 => 0,
-        1 => 1,
-        _ => 3,
     }
 }
 
@@ -54,39 +51,25 @@ fn depth_cap(n: u32) -> u8 {
     }
 }
 
-// The tariff that the call is given.
+// The tariff that a call is given.
 pub fn tariff_of(small: Small) -> Tariff {
-    let prices = small.prices;
-    let factor = small.factor;
-    Tariff {
-        rate_price: RatePrice(rate_price(prices)),
-        depth_price: DepthPrice(depth_price(prices)),
-        fee: small.fee as u32,
-        factor,
-        rate_cap: Rate(small.rate_cap as u32),
-        depth_cap: Depth(small.depth_cap as u32),
+    tariffs::tariff_of(
+        price_list(small.prices, small.fee as u32),
+        small.factor,
+        caps_of(small.rate_cap as u32, small.depth_cap as u32),
+    )
+}
+
+fn price_list(n: u8, fee: u32) -> Prices {
+    match n {
+        0 => prices_of(0, 0, fee),
+        1 => prices_of(2, 1, fee),
+        2 => prices_of(1, 1, fee),
+        _ => prices_of(7, 5, fee),
     }
 }
 
-fn rate_price(prices: u8) -> u32 {
-    match prices {
-        0 => 0,
-        1 => 2,
-        2 => 1,
-        _ => 7,
-    }
-}
-
-fn depth_price(prices: u8) -> u32 {
-    match prices {
-        0 => 0,
-        1 => 1,
-        2 => 1,
-        _ => 5,
-    }
-}
-
-// What a bucket costs in a period: price lists 0 and 0, 2 and 1, 1 and 1, 7 and 5.
+// What a bucket costs in a period, by the same price lists.
 pub fn per_period(prices: u8, rate: u16, depth: u16) -> u16
     requires { ⌜ rate ≤ 255 ⌝ }
     requires { ⌜ depth ≤ 255 ⌝ }

@@ -1,6 +1,6 @@
-// The cheapest bucket of a run by trial alone: every pair inside the caps is tried.
-use crate::tariffs::Small;
-use crate::tariffs::per_period;
+// The smallest depth and the cheapest bucket by trial alone: every pair inside the caps is tried.
+use crate::small::Small;
+use crate::small::per_period;
 use bucket::TrialAnswer;
 use terms::Bucket;
 use terms::Depth;
@@ -15,7 +15,7 @@ pub struct Best {
     pub cost: u16,
 }
 
-fn no_bucket() -> Best {
+pub fn no_bucket() -> Best {
     Best {
         found: false,
         rate: 0,
@@ -24,21 +24,18 @@ fn no_bucket() -> Best {
     }
 }
 
-// The cheapest bucket of the run of some periods from a start on, if the trace has them.
-pub fn of_run(trace: &[u16], small: Small, start: usize, periods: u8) -> Best {
-    let periods = periods as usize;
-    if trace.len() < start {
-        return no_bucket();
+// The first depth up to the cap that carries the trace; 256 stands for none.
+pub fn smallest(trace: &[u16], small: Small, rate: u8) -> u32 {
+    for depth in 0..=small.depth_cap {
+        if carries(trace, small.factor, rate, depth) {
+            return depth as u32;
+        }
     }
-    if trace.len() - start < periods {
-        return no_bucket();
-    }
-    let end = start + periods;
-    cheapest(&trace[start..end], small)
+    256
 }
 
 // The cheapest pair, and of equal ones the first in the order of rates and then depths.
-fn cheapest(trace: &[u16], small: Small) -> Best {
+pub fn cheapest(trace: &[u16], small: Small) -> Best {
     let mut best = no_bucket();
     for rate in 0..=small.rate_cap {
         best = at_rate(best, trace, small, rate);

@@ -1,8 +1,8 @@
 -- Each period is written once; nothing is asked of what is written.
 use Prim.Native.Nat.{_-_, _≤_}
 use borrow.Author.Needs.{needs}
-use Rattle.single_edges.proofs.lengths.scenes_of_32.Statement.{statement}
-use Rattle.single_edges.proofs.lengths.scenes_of_32.Tie as tie
+use Rattle.samples.proofs.traces.scenes_of_32.Statement.{statement}
+use Rattle.samples.proofs.traces.scenes_of_32.Tie as tie
 
 abbrev Inv-loop : tie.InvT-loop
 Inv-loop trace₀ i₀ trace i = i ≤ 512

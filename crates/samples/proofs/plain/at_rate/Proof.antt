@@ -1,8 +1,8 @@
 -- Each depth is weighed once; nothing is asked of what is found.
 use Prim.Native.Nat.{_-_, _≤_}
 use borrow.Author.Needs.{needs}
-use Rattle.series_brute.proofs.plain.at_rate.Statement.{statement}
-use Rattle.series_brute.proofs.plain.at_rate.Tie as tie
+use Rattle.samples.proofs.plain.at_rate.Statement.{statement}
+use Rattle.samples.proofs.plain.at_rate.Tie as tie
 
 abbrev Inv-loop : tie.InvT-loop
 Inv-loop trace small rate best₀ depth₀ depth-end best depth = depth ≤ depth-end
