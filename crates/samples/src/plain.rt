@@ -1,11 +1,11 @@
 // The smallest depth and the cheapest bucket by trial alone: every pair inside the caps is tried.
 use crate::small::Small;
-use crate::small::per_period;
 use bucket::TrialAnswer;
 use terms::Bucket;
 use terms::Depth;
 use terms::Factor;
 use terms::Rate;
+ghost use Prim.Native.Nat.{_≤_};
 
 // The cheapest bucket so far, if there is one.
 pub struct Best {
@@ -86,5 +86,19 @@ fn cost(small: Small, periods: usize, rate: u8, depth: u8) -> u16 {
         2 => period + period + fee,
         3 => period + period + period + fee,
         _ => period + period + period + period + fee,
+    }
+}
+
+// What a bucket costs in a period: price lists 0 and 0, 2 and 1, 1 and 1, 7 and 5.
+fn per_period(prices: u8, rate: u16, depth: u16) -> u16
+    requires { ⌜ rate ≤ 255 ⌝ }
+    requires { ⌜ depth ≤ 255 ⌝ }
+    ensures { λ r. ⌜ r ≤ 3060 ⌝ }
+{
+    match prices {
+        0 => 0,
+        1 => 2 * rate + depth,
+        2 => rate + depth,
+        _ => 7 * rate + 5 * depth,
     }
 }

@@ -6,7 +6,6 @@ use crate::tariffs::caps_of;
 use crate::tariffs::prices_of;
 use terms::Factor;
 use terms::Tariff;
-ghost use Prim.Native.Nat.{_≤_};
 
 // A small tariff: one of four price lists, and a fee and caps of one byte.
 pub struct Small {
@@ -66,19 +65,5 @@ fn price_list(n: u8, fee: u32) -> Prices {
         1 => prices_of(2, 1, fee),
         2 => prices_of(1, 1, fee),
         _ => prices_of(7, 5, fee),
-    }
-}
-
-// What a bucket costs in a period, by the same price lists.
-pub fn per_period(prices: u8, rate: u16, depth: u16) -> u16
-    requires { ⌜ rate ≤ 255 ⌝ }
-    requires { ⌜ depth ≤ 255 ⌝ }
-    ensures { λ r. ⌜ r ≤ 3060 ⌝ }
-{
-    match prices {
-        0 => 0,
-        1 => 2 * rate + depth,
-        2 => rate + depth,
-        _ => 7 * rate + 5 * depth,
     }
 }
