@@ -6,14 +6,15 @@ use Prim.Native.Nat.{ℕ, zero, suc, _≤_}
 use native.Mathlib.Omega.{arith}
 use native.Mathlib.Nat.{le-refl, le-antisymm}
 use mathlib.Core.Path.{_≡_, refl, sym, subst, _∙_}
-use mathlib.Core.Bool.{Bool, true, false, true≢false, false≢true, cond}
+use mathlib.Core.Bool.{Bool, true, false, true≢false, false≢true}
 use mathlib.Core.List.{List, [], _∷_, nil≢cons}
-use mathlib.Core.Logic.{_⊎_, inl, inr, ⊎-elim}
+use mathlib.Core.Logic.{_⊎_, inl, inr}
 use borrow.Author.Tests.{leb-true, leb-false}
 use lib.Dec.{leb}
 use lib.ListN.{length, take, drop, getD}
 use lib.Seq.{length-take-le}
-use Rattle.terms.specs.Answer.{Answer, figures, refused, choose}
+use Rattle.terms.specs.Answer.{Answer, figures, refused}
+use Rattle.terms.specs.ChooseLaws.{Order, IsBest, best-same, best-choose}
 use Rattle.single.specs.Preference.{smaller}
 use Rattle.single.specs.PreferenceLaws.{not-smaller, smaller-not, smaller-trans, smaller-asym}
 use Rattle.series.specs.Cutting.{FirstRun, Cuts, none, run, total, longer, wins, firstRun, joined, bestFirst, bests}
@@ -35,11 +36,11 @@ module _ {X : Type 0} (periods price : X → ℕ) where
   longer-asym (x ∷ xs) [] h = refl
   longer-asym (x ∷ xs) (y ∷ ys) h = smaller-asym _ _ _ _ h (λ h. longer-asym xs ys h)
 
-  pub not-wins-trans : (xs ys zs : List X) → wins periods price ys xs ≡ false → wins periods price zs ys ≡ false → wins periods price zs xs ≡ false
+  not-wins-trans : (xs ys zs : List X) → wins periods price ys xs ≡ false → wins periods price zs ys ≡ false → wins periods price zs xs ≡ false
   unfolding wins
   not-wins-trans xs ys zs h k = smaller-trans _ _ _ _ _ _ h k (λ h. λ k. smaller-trans _ _ _ _ _ _ h k (λ h. λ k. not-longer-trans xs ys zs h k))
 
-  pub wins-asym : (xs ys : List X) → wins periods price xs ys ≡ true → wins periods price ys xs ≡ false
+  wins-asym : (xs ys : List X) → wins periods price xs ys ≡ true → wins periods price ys xs ≡ false
   unfolding wins
   wins-asym xs ys h = smaller-asym _ _ _ _ h (λ h. smaller-asym _ _ _ _ h (λ h. longer-asym xs ys h))
 
@@ -58,42 +59,12 @@ module _ {X : Type 0} (periods price : X → ℕ) where
       let n = smaller-not (length ys) (length xs) _ (c .1 (omega (arith, c .0))) in
       not-smaller _ _ _ (omega (arith, n .0)) (λ g. not-smaller _ _ _ (omega arith) (λ i. n .1 (omega arith))))
 
-  -- ---- The best of a kind of cuttings
+  pub wins-order : Order (wins periods price)
+  wins-order = record { trans = not-wins-trans; asym = wins-asym }
 
-  -- xs is of the kind, and none of the kind wins over it.
-  pub record BestOf (Kind : List X → Type 0) (xs : List X) : Type 0 where
-    pub kind : Kind xs
-    pub none-wins : (ys : List X) → Kind ys → wins periods price ys xs ≡ false
-
-  abbrev pub IsBest : (List X → Type 0) → Answer (List X) → Type 0
-  IsBest Kind (figures xs) = BestOf Kind xs
-  IsBest Kind (refused n) = (n ≡ 7) × ((xs : List X) → Kind xs → ⊥)
-
-  best-same : (P R : List X → Type 0) → ((xs : List X) → P xs → R xs) → ((xs : List X) → R xs → P xs) → (a : Answer (List X)) → IsBest P a → IsBest R a
-  best-same P R to from (figures xs) b = record { kind = to xs (b .kind); none-wins = λ ys k. b .none-wins ys (from ys k) }
-  best-same P R to from (refused n) b = (b .0, λ xs k. b .1 xs (from xs k))
-
-  -- The best of two kinds is the better of the best of each.
-  module _ (P Q R : List X → Type 0) (left : (xs : List X) → P xs → R xs) (right : (xs : List X) → Q xs → R xs) (either : (xs : List X) → R xs → P xs ⊎ Q xs) where
-    best-choose : (a b : Answer (List X)) → IsBest P a → IsBest Q b → IsBest R (choose (wins periods price) a b)
-    best-choose (refused m) (refused n) h k = (h .0, λ xs r. ⊎-elim (λ p. h .1 xs p) (λ q. k .1 xs q) (either xs r))
-    best-choose (figures xs) (refused n) h k =
-        record { kind = left xs (h .kind); none-wins = λ ys r. ⊎-elim (λ p. h .none-wins ys p) (λ q. absurd (k .1 ys q)) (either ys r) }
-    best-choose (refused m) (figures ys) h k =
-        record { kind = right ys (k .kind); none-wins = λ zs r. ⊎-elim (λ p. absurd (h .1 zs p)) (λ q. k .none-wins zs q) (either zs r) }
-    best-choose (figures xs) (figures ys) h k = go (wins periods price ys xs) refl
-      where
-        go : (b : Bool) → wins periods price ys xs ≡ b → IsBest R (cond b (figures ys) (figures xs))
-        go true e =
-            record {
-              kind = right ys (k .kind);
-              none-wins = λ zs r. ⊎-elim (λ p. not-wins-trans ys xs zs (wins-asym ys xs e) (h .none-wins zs p)) (λ q. k .none-wins zs q) (either zs r);
-            }
-        go false e =
-            record {
-              kind = left xs (h .kind);
-              none-wins = λ zs r. ⊎-elim (λ p. h .none-wins zs p) (λ q. not-wins-trans xs ys zs e (k .none-wins zs q)) (either zs r);
-            }
+  -- The best of a kind of cuttings.
+  abbrev pub IsBestCut : (List X → Type 0) → Answer (List X) → Type 0
+  IsBestCut = IsBest (wins periods price)
 
 -- ---- The best cutting
 
@@ -147,14 +118,14 @@ module _ {X : Type 0} (periods price : X → ℕ) (Fits : List ℕ → X → Typ
           subst (λ (n : ℕ). Cut (drop n ds) ys) (b .first) (c .1),
         )
 
-    best-joined : (a : Answer X) → IsChoice (take (suc k) ds) a → (r : Answer (List X)) → IsBest periods price (Cut (drop (suc k) ds)) r → IsBest periods price (Begins ds (suc k)) (joined a r)
-    best-joined (figures x) o (figures xs) b = record { kind = begins x xs (o .whole) (o .fits) (b .kind); none-wins = beaten }
+    best-joined : (a : Answer X) → IsChoice (take (suc k) ds) a → (r : Answer (List X)) → IsBestCut periods price (Cut (drop (suc k) ds)) r → IsBestCut periods price (Begins ds (suc k)) (joined a r)
+    best-joined (figures x) o (figures xs) b = record { kind = begins x xs (o .whole) (o .fits) (b .kind); none-preferred = beaten }
       where
         beaten : (ys : List X) → Begins ds (suc k) ys → wins periods price ys (x ∷ xs) ≡ false
         beaten [] c = absurd (omega (arith, c .first))
         beaten (y ∷ ys) c =
             let f = fits-run y ys c in
-            not-wins-join periods price x y xs ys (f .0 ∙ sym (o .whole)) (o .least y (f .0) (f .1)) (b .none-wins ys (f .2))
+            not-wins-join periods price x y xs ys (f .0 ∙ sym (o .whole)) (o .least y (f .0) (f .1)) (b .none-preferred ys (f .2))
     best-joined (figures x) o (refused n) b = (b .0, rest-none)
       where
         rest-none : (ys : List X) → Begins ds (suc k) ys → ⊥
@@ -182,15 +153,15 @@ module _ {X : Type 0} (periods price : X → ℕ) (Fits : List ℕ → X → Typ
 
   -- What is known of the list of rests: each is the best for what is left.
   abbrev pub Rests : List ℕ → List (Answer (List X)) → Type 0
-  Rests ds rests = (k : ℕ) → suc k ≤ length ds → IsBest periods price (Cut (drop (suc k) ds)) (getD rests k (refused 7))
+  Rests ds rests = (k : ℕ) → suc k ≤ length ds → IsBestCut periods price (Cut (drop (suc k) ds)) (getD rests k (refused 7))
 
   module _ (choice : List ℕ → Answer X) (choices : (ds : List ℕ) → IsChoice ds (choice ds)) where
     pub first-is : (ds : List ℕ) (rests : List (Answer (List X))) → Rests ds rests → (k : ℕ) → k ≤ length ds
-        → IsBest periods price (Within ds k) (bestFirst periods price choice ds rests k)
+        → IsBestCut periods price (Within ds k) (bestFirst periods price choice ds rests k)
     unfolding bestFirst
     first-is ds rests h zero l = (refl, λ xs w. omega (arith, w .some, w .first))
     first-is ds rests h (suc k) l =
-        best-choose periods price (Within ds k) (Begins ds (suc k)) (Within ds (suc k)) (within-more ds k l) (begins-within ds k l) (within-either ds k l)
+        best-choose (wins periods price) (wins-order periods price) (Within ds k) (Begins ds (suc k)) (Within ds (suc k)) (within-more ds k l) (begins-within ds k l) (within-either ds k l)
         (bestFirst periods price choice ds rests k) (joined (choice (take (suc k) ds)) (getD rests k (refused 7)))
         (first-is ds rests h k (omega arith)) (best-joined ds k l (choice (take (suc k) ds)) (choices (take (suc k) ds)) (getD rests k (refused 7)) (h k l))
 
@@ -204,12 +175,12 @@ module _ {X : Type 0} (periods price : X → ℕ) (Fits : List ℕ → X → Typ
     none-of-none [] c = refl
     none-of-none (y ∷ ys) c = let f = cut-first c .0 in absurd (omega (arith, f .some, f .inside))
 
-    pub bests-are : (ds : List ℕ) (k : ℕ) → k ≤ length ds → IsBest periods price (Cut (drop k ds)) (getD (bests periods price choice ds) k (refused 7))
+    pub bests-are : (ds : List ℕ) (k : ℕ) → k ≤ length ds → IsBestCut periods price (Cut (drop k ds)) (getD (bests periods price choice ds) k (refused 7))
     unfolding bests
-    bests-are [] zero l = record { kind = none; none-wins = none-of-none }
+    bests-are [] zero l = record { kind = none; none-preferred = none-of-none }
     bests-are [] (suc k) l = absurd (omega arith)
     bests-are (d ∷ ds) zero l =
-        best-same periods price (Within (d ∷ ds) (length (d ∷ ds))) (Cut (d ∷ ds)) (λ xs w. w .cut) (cut-within d ds)
+        best-same (wins periods price) (Within (d ∷ ds) (length (d ∷ ds))) (Cut (d ∷ ds)) (λ xs w. w .cut) (cut-within d ds)
         (bestFirst periods price choice (d ∷ ds) (bests periods price choice ds) (length (d ∷ ds)))
         (first-is (d ∷ ds) (bests periods price choice ds) (λ k l. bests-are ds k (omega arith)) (length (d ∷ ds)) (le-refl _))
     bests-are (d ∷ ds) (suc k) l = bests-are ds k (omega arith)

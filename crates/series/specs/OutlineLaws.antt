@@ -8,7 +8,7 @@ use native.Mathlib.Numerals.{add-one}
 use mathlib.Core.Path.{_≡_, refl, sym, ap, _∙_}
 use mathlib.Core.Bool.{Bool, true, false, cond, _&&_, _||_}
 use mathlib.Core.List.{List, [], _∷_}
-use borrow.Author.Tests.{ltb-true, ltb-false, lt-ltb, le-ltb, le-leb, lt-leb, eqb-true, eqb-false}
+use borrow.Author.Tests.{ltb-true, ltb-false, lt-ltb, le-leb, lt-leb, eqb-true, eqb-false}
 use lib.Dec.{ltb, leb, eqb}
 use lib.ListN.{length, take, drop, getD, length-drop}
 use lib.Seq.{length-take-le}
@@ -24,7 +24,7 @@ use Rattle.single.specs.Single.{cheapestOf}
 use Rattle.single.specs.SingleLaws.{IsSingle, cheapest-is}
 use Rattle.series.specs.declared.outlines.Outline.{Outline}
 use Rattle.series.specs.Cutting.{FirstRun, none, run, total, longer, wins, firstRun, joined, bestFirst}
-use Rattle.series.specs.CuttingLaws.{Within, IsBest, Rests, first-is}
+use Rattle.series.specs.CuttingLaws.{Within, IsBestCut, Rests, first-is}
 use Rattle.series.specs.Series.{Cutting, runLength, runCost, trueCost, ServesRun, Carried, preferred, recordOf, runRecord}
 use Rattle.series.specs.SeriesLaws.{IsSeries, run-chosen}
 use Rattle.series.specs.Outline.{unpriced, priceOf, outlineOf, betterOutline, orBetter, firstOutline}
@@ -138,7 +138,7 @@ module _ (t : Tariff) (h : TariffRange t) (ds : List ℕ) (few : length ds ≤ t
     pub count : (i : ℕ) → i < length ds → getD counts i 0 ≡ outlineOf t (getD rests i (refused 7)) .buckets
 
   module _ (rests : List (Answer Cutting)) (bests : Rests runLength (runCost t) (ServesRun t) ds rests) (prices costs counts : List ℕ) (s : Lists rests prices costs counts) where
-    up-to : (k : ℕ) (a : Answer Cutting) → IsBest runLength (runCost t) (Within runLength (runCost t) (ServesRun t) ds k) a → UpTo t k a
+    up-to : (k : ℕ) (a : Answer Cutting) → IsBestCut runLength (runCost t) (Within runLength (runCost t) (ServesRun t) ds k) a → UpTo t k a
     up-to k (figures ys) b = b .kind .first
     up-to k (refused n) b = tt
 

@@ -25,7 +25,7 @@ use Rattle.single.specs.PreferenceLaws.{not-preferred-cost, preferred-asym}
 use Rattle.single.specs.Rates.{candidates, weighed}
 use Rattle.single.specs.RateLaws.{weighed-front}
 use Rattle.single.specs.Single.{bucketOf, atDepth, atRate, better, bestOf}
-use Rattle.single.specs.BestLaws.{IsBest, best-is, best-next}
+use Rattle.single.specs.BestLaws.{IsBestOf, best-is, best-next}
 use Rattle.series.specs.Outline.{unpriced, priceOf}
 
 -- The list holds the prices of the runs of 1, 2, .. periods after the first k candidate rates.
@@ -38,10 +38,10 @@ pub cost-below : (t : Tariff) (b : Bucket) (n : ℕ) → TariffRange t → Bucke
 cost-below t b n h k l = omega (arith, cost-le h k n)
 
 module _ (t : Tariff) (ds : List ℕ) (h : TariffRange t) (few : length ds ≤ traceLimit) where
-  best-below : (k : ℕ) (a : Answer Priced) → IsBest t ds k a → k ≤ candidates t → priceOf a ≤ unpriced
+  best-below : (k : ℕ) (a : Answer Priced) → IsBestOf t ds k a → k ≤ candidates t → priceOf a ≤ unpriced
   best-below k (refused n) b l = omega arith
   best-below k (figures x) b l =
-      omega (arith, b .paid, cost-below t (x .bucket) (length ds) h (record { rates = omega (arith, b .below, h .rate-caps); depths = le-trans (b .serves .inside) (h .depth-caps) }) few)
+      omega (arith, b .kind .paid, cost-below t (x .bucket) (length ds) h (record { rates = omega (arith, b .kind .rates, h .rate-caps); depths = le-trans (b .kind .serves .inside) (h .depth-caps) }) few)
 
   pub price-below : (k : ℕ) → k ≤ candidates t → priceOf (bestOf t ds k) ≤ unpriced
   price-below k l = best-below k (bestOf t ds k) (best-is t ds k) l

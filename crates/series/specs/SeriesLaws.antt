@@ -19,7 +19,7 @@ use Rattle.single.specs.declared.costs.Priced.{Priced}
 use Rattle.single.specs.Cost.{costOf}
 use Rattle.single.specs.Single.{cheapestOf}
 use Rattle.single.specs.SingleLaws.{IsSingle, cheapest-is, cheapest-least}
-use Rattle.series.specs.CuttingLaws.{IsBest, IsChoice, not-wins-cost, bests-are}
+use Rattle.series.specs.CuttingLaws.{IsBestCut, IsChoice, not-wins-cost, bests-are}
 use Rattle.series.specs.RunLaws.{Choices, best-choices, choices-only}
 use Rattle.series.specs.Series.{Cutting, runLength, runCost, trueCost, ServesRun, Carried, preferred, recordOf, runRecord, cheapestCut, seriesOf}
 
@@ -65,7 +65,7 @@ module _ (t : Tariff) where
   NoCutting ds = (xs : Cutting) → Carried t ds xs → ⊥
 
   abbrev pub IsSeries : List ℕ → Answer Cutting → Type 0
-  IsSeries ds = IsBest runLength (runCost t) (Carried t ds)
+  IsSeries ds = IsBestCut runLength (runCost t) (Carried t ds)
 
   module _ (ds : List ℕ) where
     pub series-is : IsSeries ds (cheapestCut t ds)
@@ -77,8 +77,8 @@ module _ (t : Tariff) where
         record {
           carried = b .kind;
           singles = best-choices runLength (runCost t) (runRecord t) record-whole ds xs e;
-          cheapest = λ ys c. not-wins-cost runLength (runCost t) xs ys (b .none-wins ys c);
-          none-preferred = b .none-wins;
+          cheapest = λ ys c. not-wins-cost runLength (runCost t) xs ys (b .none-preferred ys c);
+          none-preferred = b .none-preferred;
         }
 
     -- There is one such cutting only.

@@ -3,23 +3,26 @@
 -- Assumes nothing.
 use Prim.Native.Nat.{ℕ, zero, suc, _+_, _≤_, _<_}
 use native.Mathlib.Omega.{arith}
-use native.Mathlib.Nat.{le-refl}
+use native.Mathlib.Nat.{le-antisymm, le-of-suc-le-suc}
 use native.Mathlib.Numerals.{add-one}
-use mathlib.Core.Path.{_≡_, refl, sym, ap, _∙_}
-use mathlib.Core.Bool.{Bool, true, false, cond}
+use mathlib.Core.Path.{_≡_, refl, sym, ap, subst, _∙_}
+use mathlib.Core.Bool.{Bool, true, false}
 use mathlib.Core.List.{List}
-use borrow.Author.Count.{below-more}
+use mathlib.Core.Logic.{_⊎_, inl, inr}
+use borrow.Author.Tests.{ltb-true, ltb-false}
+use lib.Dec.{ltb}
 use lib.ListN.{length}
 use Rattle.terms.specs.declared.Tariff.{Tariff}
 use Rattle.terms.specs.Answer.{Answer, figures, refused}
 use Rattle.terms.specs.Bools.{true-false}
+use Rattle.terms.specs.ChooseLaws.{IsBest, best-choose}
 use Rattle.bucket.specs.Trace.{carries}
 use Rattle.depth.specs.Depth.{tariffDepth}
 use Rattle.depth.specs.DepthLaws.{depth-within, depth-carries, depth-least, depth-none}
 use Rattle.single.specs.declared.costs.Priced.{Priced}
 use Rattle.single.specs.Cost.{costOf, pricedAt}
 use Rattle.single.specs.Preference.{preferred}
-use Rattle.single.specs.PreferenceLaws.{not-preferred-trans, preferred-asym, larger-not-preferred}
+use Rattle.single.specs.PreferenceLaws.{preferred-order, larger-not-preferred}
 use Rattle.single.specs.Single.{bucketOf, atDepth, better, bestOf}
 
 module _ (t : Tariff) (ds : List ℕ) where
@@ -32,62 +35,68 @@ module _ (t : Tariff) (ds : List ℕ) where
   abbrev pub here : ℕ → ℕ → Priced
   here r B = pricedAt t (length ds) (bucketOf r B)
 
+  -- x is a bucket with its cost that carries the trace, at a rate with some property.
+  pub record WithRate (Rates : ℕ → Type 0) (x : Priced) : Type 0 where
+    pub rates : Rates (x .bucket .rate .0)
+    pub serves : At (x .bucket .rate .0) (x .bucket .depth .0)
+    pub paid : x .cost ≡ costOf t (length ds) (x .bucket)
+
+  pub with-rate : (Rates : ℕ → Type 0) (r B : ℕ) → Rates r → At r B → WithRate Rates (here r B)
+  with-rate Rates r B l s = record { rates = l; serves = s; paid = refl }
+
+  -- Such a bucket is `here` at its rate and depth.
+  is-here : (Rates : ℕ → Type 0) (x : Priced) → WithRate Rates x → x ≡ here (x .bucket .rate .0) (x .bucket .depth .0)
+  is-here Rates x w = ap (λ (c : ℕ). record { bucket = x .bucket; cost = c }) (w .paid)
+
+  -- The answer is the best of the first k candidate rates.
+  abbrev pub IsBestOf : ℕ → Answer Priced → Type 0
+  IsBestOf k = IsBest preferred (WithRate (λ r. r < k))
+
   -- No pair with rate r is preferred to x.
   abbrev pub NoneBefore : Priced → ℕ → Type 0
   NoneBefore x r = (B : ℕ) → At r B → preferred (here r B) x ≡ false
 
-  -- x is the best of the first k candidate rates.
-  pub record Best (k : ℕ) (x : Priced) : Type 0 where
-    pub below : x .bucket .rate .0 < k
-    pub serves : At (x .bucket .rate .0) (x .bucket .depth .0)
-    pub paid : x .cost ≡ costOf t (length ds) (x .bucket)
-    pub none-before : (r : ℕ) → r < k → NoneBefore x r
-
-  -- No pair with rate r carries the trace.
-  abbrev pub NoneServes : ℕ → Type 0
-  NoneServes r = (B : ℕ) → At r B → ⊥
-
-  abbrev pub IsBest : ℕ → Answer Priced → Type 0
-  IsBest k (figures x) = Best k x
-  IsBest k (refused n) = (n ≡ 7) × ((r : ℕ) → r < k → NoneServes r)
-
-  below-suc : (P : ℕ → Type 0) (k : ℕ) → ((r : ℕ) → r < k → P r) → P k → (r : ℕ) → r < suc k → P r
-  below-suc P k all this r l = below-more P k all this r (rw add-one l)
+  pub none-before : (k : ℕ) (x : Priced) → IsBestOf k (figures x) → (r : ℕ) → r < k → NoneBefore x r
+  none-before k x b r l B s = b .none-preferred (here r B) (with-rate (λ r. r < k) r B l s)
 
   module _ (k : ℕ) where
-    -- At rate k the smallest depth is the one to weigh.
-    smallest-first : (B : ℕ) → tariffDepth t k ds ≡ figures B → NoneBefore (here k B) k
-    smallest-first B e C s = larger-not-preferred t (length ds) (bucketOf k B) (bucketOf k C) (le-refl k) (depth-least _ _ _ _ _ e C (s .carried))
-
     pub found-at : (B : ℕ) → tariffDepth t k ds ≡ figures B → At k B
     found-at B e = record { inside = depth-within _ _ _ _ _ e; carried = depth-carries _ _ _ _ _ e }
 
-    passed-over : (n : ℕ) → tariffDepth t k ds ≡ refused n → NoneServes k
-    passed-over n e B s = true-false (s .carried) (depth-none _ _ _ _ _ e .1 B (s .inside))
+    at-k : (x : Priced) → WithRate (λ r. r ≡ k) x → At k (x .bucket .depth .0)
+    at-k x w = subst (λ (r : ℕ). At r (x .bucket .depth .0)) (w .rates) (w .serves)
 
-    -- A bucket at rate k that is taken.
-    taken : (B : ℕ) → tariffDepth t k ds ≡ figures B → ((r : ℕ) → r < k → NoneBefore (here k B) r) → Best (suc k) (here k B)
-    taken B e before =
-        record { below = omega arith; serves = found-at B e; paid = refl; none-before = below-suc _ k before (smallest-first B e) }
+    -- At rate k the smallest depth is the one to weigh.
+    best-at : (o : Answer ℕ) → tariffDepth t k ds ≡ o → IsBest preferred (WithRate (λ r. r ≡ k)) (atDepth t (length ds) k o)
+    best-at (figures B) e =
+        record {
+          kind = with-rate (λ r. r ≡ k) k B refl (found-at B e);
+          none-preferred = λ x w.
+              ap (λ (y : Priced). preferred y (here k B)) (is-here (λ r. r ≡ k) x w)
+              ∙ larger-not-preferred t (length ds) (bucketOf k B) (x .bucket) (omega (arith, w .rates)) (depth-least _ _ _ _ _ e (x .bucket .depth .0) (at-k x w .carried));
+        }
+    best-at (refused n) e =
+        let none = depth-none _ _ _ _ _ e in
+        (none .0, λ x w. true-false (at-k x w .carried) (none .1 (x .bucket .depth .0) (w .serves .inside)))
 
-    -- What was found before and stays.
-    stays : (x : Priced) → Best k x → NoneBefore x k → Best (suc k) x
-    stays x b this =
-        record { below = omega (arith, b .below); serves = b .serves; paid = b .paid; none-before = below-suc _ k (b .none-before) this }
-
-    one-more : (a : Answer Priced) → IsBest k a → (o : Answer ℕ) → tariffDepth t k ds ≡ o → IsBest (suc k) (better a (atDepth t (length ds) k o))
-    one-more (figures x) b (refused n) e = stays x b (λ B s. absurd (passed-over n e B s))
-    one-more (refused m) b (refused n) e = (b .0, below-suc _ k (b .1) (passed-over n e))
-    one-more (refused m) b (figures B) e = taken B e (λ r l C s. absurd (b .1 r l C s))
-    one-more (figures x) b (figures B) e = go (preferred (here k B) x) refl
+    -- A rate below k + 1 is below k or k.
+    either : (x : Priced) → WithRate (λ r. r < suc k) x → WithRate (λ r. r < k) x ⊎ WithRate (λ r. r ≡ k) x
+    either x w = go (ltb (x .bucket .rate .0) k) refl
       where
-        go : (c : Bool) → preferred (here k B) x ≡ c → IsBest (suc k) (cond c (figures (here k B)) (figures x))
-        go true h = taken B e (λ r l C s. not-preferred-trans (here k B) x (here r C) (preferred-asym (here k B) x h) (b .none-before r l C s))
-        go false h = stays x b (λ C s. not-preferred-trans x (here k B) (here k C) h (smallest-first B e C s))
+        go : (b : Bool) → ltb (x .bucket .rate .0) k ≡ b → WithRate (λ r. r < k) x ⊎ WithRate (λ r. r ≡ k) x
+        go true e = inl (record { rates = ltb-true _ _ e; serves = w .serves; paid = w .paid })
+        go false e = inr (record { rates = le-antisymm (le-of-suc-le-suc (w .rates)) (ltb-false _ _ e); serves = w .serves; paid = w .paid })
 
-  pub best-is : (k : ℕ) → IsBest k (bestOf t ds k)
+    one-more : (a : Answer Priced) → IsBestOf k a → (o : Answer ℕ) → tariffDepth t k ds ≡ o → IsBestOf (suc k) (better a (atDepth t (length ds) k o))
+    one-more a b o e =
+        best-choose preferred preferred-order (WithRate (λ r. r < k)) (WithRate (λ r. r ≡ k)) (WithRate (λ r. r < suc k))
+        (λ x w. record { rates = omega (arith, w .rates); serves = w .serves; paid = w .paid })
+        (λ x w. record { rates = omega (arith, w .rates); serves = w .serves; paid = w .paid })
+        either a (atDepth t (length ds) k o) b (best-at o e)
+
+  pub best-is : (k : ℕ) → IsBestOf k (bestOf t ds k)
   unfolding bestOf
-  best-is zero = (refl, λ r l. absurd (omega arith))
+  best-is zero = (refl, λ x w. omega (arith, w .rates))
   best-is (suc k) = one-more k (bestOf t ds k) (best-is k) (tariffDepth t k ds) refl
 
   -- One more rate, from what the depth at it is and what was found before it.

@@ -8,6 +8,7 @@ use mathlib.Core.Bool.{Bool, true, false, true≢false, _&&_, _||_}
 use borrow.Author.Tests.{ltb-true, ltb-false, le-ltb, eqb-true, eq-eqb}
 use lib.Dec.{ltb, eqb}
 use Rattle.terms.specs.Bools.{and-both}
+use Rattle.terms.specs.ChooseLaws.{Order}
 use Rattle.terms.specs.declared.Bucket.{Bucket}
 use Rattle.terms.specs.declared.Tariff.{Tariff}
 use Rattle.single.specs.declared.costs.Priced.{Priced}
@@ -65,6 +66,9 @@ not-preferred-trans x y z h k =
 pub preferred-asym : (x y : Priced) → preferred x y ≡ true → preferred y x ≡ false
 unfolding preferred
 preferred-asym x y h = smaller-asym _ _ _ _ h (λ h. smaller-asym _ _ _ _ h (λ h. smaller-asym _ _ _ _ h (λ h. refl)))
+
+pub preferred-order : Order preferred
+preferred-order = record { trans = not-preferred-trans; asym = preferred-asym }
 
 abbrev made : ℕ → ℕ → ℕ → Priced
 made c r d = record { bucket = record { rate = record { 0 = r }; depth = record { 0 = d } }; cost = c }

@@ -22,7 +22,7 @@ use Rattle.single.specs.CostLaws.{cost-mono}
 use Rattle.single.specs.PreferenceLaws.{not-preferred-trans, dearer-not-preferred, larger-not-preferred}
 use Rattle.single.specs.Rates.{candidates, greatest, weighed, dearer}
 use Rattle.single.specs.Single.{bucketOf, atDepth, better, bestOf, cheapestOf}
-use Rattle.single.specs.BestLaws.{At, NoneBefore, IsBest, found-at, best-is, best-next}
+use Rattle.single.specs.BestLaws.{At, NoneBefore, IsBestOf, here, with-rate, none-before, found-at, best-is, best-next}
 
 -- A rate of at least every demand carries with any depth and any tokens.
 pub greatest-carries : (r B y : ℕ) (ds : List ℕ) → greatest ds ≤ r → carriesFrom r B y ds ≡ true
@@ -65,11 +65,11 @@ module _ (t : Tariff) (ds : List ℕ) where
   zero-depth : At t ds (greatest ds) 0
   zero-depth = record { inside = omega arith; carried = greatest-carries (greatest ds) 0 _ ds (omega arith) }
 
-  above-none : (a : Answer Priced) → a ≡ bestOf t ds (greatest ds + 1) → IsBest t ds (greatest ds + 1) a → (m : ℕ) → bestOf t ds (greatest ds + 1 + m) ≡ a
-  above-none (refused n) e k m = absurd (k .1 (greatest ds) (omega arith) 0 zero-depth)
+  above-none : (a : Answer Priced) → a ≡ bestOf t ds (greatest ds + 1) → IsBestOf t ds (greatest ds + 1) a → (m : ℕ) → bestOf t ds (greatest ds + 1 + m) ≡ a
+  above-none (refused n) e k m = absurd (k .1 (here t ds (greatest ds) 0) (with-rate t ds (λ r. r < greatest ds + 1) (greatest ds) 0 (omega arith) zero-depth))
   above-none (figures x) e k m =
       sym (weighed-on (greatest ds + 1) x e
-      (λ r m B s. not-preferred-trans x _ _ (k .none-before (greatest ds) (omega arith) 0 zero-depth) (larger-not-preferred t (length ds) (bucketOf (greatest ds) 0) (bucketOf r B) (omega arith) (omega arith)))
+      (λ r m B s. not-preferred-trans x _ _ (none-before t ds (greatest ds + 1) x k (greatest ds) (omega arith) 0 zero-depth) (larger-not-preferred t (length ds) (bucketOf (greatest ds) 0) (bucketOf r B) (omega arith) (omega arith)))
       m)
 
   -- No rate above the greatest demand need be weighed, and to weigh some of them does no harm.

@@ -1,7 +1,7 @@
 -- The single answer is the least over all pairs: no bucket inside the caps that carries the trace is preferred to it, so none
 -- costs less; and refusal 7 is given exactly when no bucket inside the caps carries the trace.
 -- Assumes nothing.
-use Prim.Native.Nat.{ℕ, _≤_}
+use Prim.Native.Nat.{ℕ, _≤_, _<_}
 use native.Mathlib.Omega.{arith}
 use mathlib.Core.Path.{_≡_, refl, sym, ap, subst, _∙_}
 use mathlib.Core.Bool.{true, false}
@@ -17,7 +17,7 @@ use Rattle.single.specs.Cost.{costOf, pricedAt}
 use Rattle.single.specs.Preference.{preferred}
 use Rattle.single.specs.Rates.{candidates}
 use Rattle.single.specs.PreferenceLaws.{not-preferred-cost, preferred-total}
-use Rattle.single.specs.BestLaws.{At, IsBest, best-is}
+use Rattle.single.specs.BestLaws.{At, IsBestOf, here, with-rate, none-before, best-is}
 use Rattle.single.specs.Single.{Serves, cheapestOf, singleOf}
 
 -- x is the single bucket of the trace: it is inside the caps and carries the trace, its cost is its own, and no bucket inside
@@ -38,14 +38,15 @@ module _ (t : Tariff) (ds : List ℕ) where
   serves-at : {b : Bucket} → Serves t ds b → At t ds (b .rate .0) (b .depth .0)
   serves-at s = record { inside = s .depths; carried = s .carried }
 
-  single-best : (a : Answer Priced) → IsBest t ds (candidates t) a → IsSingle t ds a
+  single-best : (a : Answer Priced) → IsBestOf t ds (candidates t) a → IsSingle t ds a
   single-best (figures x) k =
       record {
-        serves = record { rates = omega (arith, k .below); depths = k .serves .inside; carried = k .serves .carried };
-        paid = k .paid;
-        none-preferred = λ b s. k .none-before (b .rate .0) (omega (arith, s .rates)) (b .depth .0) (serves-at s);
+        serves = record { rates = omega (arith, k .kind .rates); depths = k .kind .serves .inside; carried = k .kind .serves .carried };
+        paid = k .kind .paid;
+        none-preferred = λ b s. none-before t ds (candidates t) x k (b .rate .0) (omega (arith, s .rates)) (b .depth .0) (serves-at s);
       }
-  single-best (refused n) k = (k .0, λ b s. k .1 (b .rate .0) (omega (arith, s .rates)) (b .depth .0) (serves-at s))
+  single-best (refused n) k =
+      (k .0, λ b s. k .1 (here t ds (b .rate .0) (b .depth .0)) (with-rate t ds (λ r. r < candidates t) (b .rate .0) (b .depth .0) (omega (arith, s .rates)) (serves-at s)))
 
   pub cheapest-is : IsSingle t ds (cheapestOf t ds)
   cheapest-is = single-best (cheapestOf t ds) (best-is t ds (candidates t))

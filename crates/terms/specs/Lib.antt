@@ -4,6 +4,7 @@ pub mod Refusals
 pub mod Limits
 pub mod Ranges
 pub mod AnswerLaws
+pub mod ChooseLaws
 pub mod Bools
 pub mod RangeLaws
 pub mod RefusalLaws
