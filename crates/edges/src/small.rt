@@ -9,11 +9,8 @@ use terms::Factor;
 const CASES: u32 = 30_870;
 
 pub fn cases() {
-    report::words(b"small cases");
-    report::number(CASES as u64);
-    report::words(b" agreed");
-    report::number(agreed() as u64);
-    report::end_line();
+    report::words(b"small ");
+    report::agreement(CASES, agreed());
 }
 
 fn agreed() -> u32 {

@@ -28,48 +28,35 @@ use Rattle.figures.specs.Rows.{Row, rowOf, allRight, Hold, all-hold}
 half : Factor
 half = record { p = 1; q = 2 }
 
--- the printed case's prices 2 and 1, factor 1/2 and rate cap 4,095, with a fee and a depth cap
-sold : ℕ → ℕ → Tariff
-sold F B =
+-- the seven figures in document 01's order
+tariff : ℕ → ℕ → ℕ → Factor → ℕ → ℕ → Tariff
+tariff rate-price depth-price F f rate-cap depth-cap =
     record {
-      «rate_price» = record { 0 = 2 };
-      «depth_price» = record { 0 = 1 };
+      «rate_price» = record { 0 = rate-price };
+      «depth_price» = record { 0 = depth-price };
       fee = F;
-      factor = half;
-      «rate_cap» = record { 0 = 4095 };
-      «depth_cap» = record { 0 = B };
+      factor = f;
+      «rate_cap» = record { 0 = rate-cap };
+      «depth_cap» = record { 0 = depth-cap };
     }
 
--- the printed case's tariff, and with another fee
+-- the printed case's tariff, and with another fee or another depth cap
 printed : Tariff
-printed = sold 4 1000000
+printed = tariff 2 1 4 half 4095 1000000
 
-fee : ℕ → Tariff
-fee F = sold F 1000000
+withFee : ℕ → Tariff
+withFee F = tariff 2 1 F half 4095 1000000
 
--- row G's and H's: factor 0/1, caps 5 and 10
-empty : Tariff
-empty =
-    record {
-      «rate_price» = record { 0 = 2 };
-      «depth_price» = record { 0 = 1 };
-      fee = 4;
-      factor = record { p = 0; q = 1 };
-      «rate_cap» = record { 0 = 5 };
-      «depth_cap» = record { 0 = 10 };
-    }
+capped : ℕ → Tariff
+capped B = tariff 2 1 4 half 4095 B
 
 -- row D's: factor 2/3, prices 7 and 5, F = 0
 uneven : Tariff
-uneven =
-    record {
-      «rate_price» = record { 0 = 7 };
-      «depth_price» = record { 0 = 5 };
-      fee = 0;
-      factor = record { p = 2; q = 3 };
-      «rate_cap» = record { 0 = 4095 };
-      «depth_cap» = record { 0 = 1000000 };
-    }
+uneven = tariff 7 5 0 (record { p = 2; q = 3 }) 4095 1000000
+
+-- row G's and H's: factor 0/1, caps 5 and 10
+empty : Tariff
+empty = tariff 2 1 4 (record { p = 0; q = 1 }) 5 10
 
 case : List ℕ
 case = 4 ∷ 8 ∷ 2 ∷ []
@@ -111,8 +98,8 @@ table =
     ∷ record { given = rowOf depthRow (depthOf printed 5 case); paper = figures (pos 4 ∷ []) }
     ∷ record { given = rowOf depthRow (depthOf printed 6 case); paper = figures (pos 2 ∷ []) }
     -- B: 4,8,2 at rate 5: depth cap 4 gives 4, cap 3 gives refusal 7
-    ∷ record { given = rowOf depthRow (depthOf (sold 4 4) 5 case); paper = figures (pos 4 ∷ []) }
-    ∷ record { given = rowOf depthRow (depthOf (sold 4 3) 5 case); paper = refused 7 }
+    ∷ record { given = rowOf depthRow (depthOf (capped 4) 5 case); paper = figures (pos 4 ∷ []) }
+    ∷ record { given = rowOf depthRow (depthOf (capped 3) 5 case); paper = refused 7 }
     -- C: single for 4,8,2: (5, 4), cost 46; rate 6 with depth 2 costs the same
     ∷ record { given = rowOf singleRow (singleOf printed case); paper = figures (pos 5 ∷ pos 4 ∷ pos 46 ∷ []) }
     ∷ record { given = rowOf singleRow (atRate printed case 6); paper = figures (pos 6 ∷ pos 2 ∷ pos 46 ∷ []) }
@@ -122,10 +109,10 @@ table =
     ∷ record { given = rowOf costRow (atRate uneven (3 ∷ []) 1); paper = figures (pos 22 ∷ []) }
     ∷ record { given = rowOf costRow (atRate uneven (3 ∷ []) 2); paper = figures (pos 24 ∷ []) }
     -- E: series for 4,8,2 with F = 10: one bucket (5, 4), cost 52
-    ∷ record { given = seriesAt (fee 10) case; paper = figures (pos 1 ∷ pos 52 ∷ pos 3 ∷ pos 5 ∷ pos 4 ∷ []) }
+    ∷ record { given = seriesAt (withFee 10) case; paper = figures (pos 1 ∷ pos 52 ∷ pos 3 ∷ pos 5 ∷ pos 4 ∷ []) }
     -- F: the same, fee 3: three buckets (0, 8), (0, 16), (0, 4), cost 37
     ∷ record {
-      given = seriesAt (fee 3) case;
+      given = seriesAt (withFee 3) case;
       paper = figures (pos 3 ∷ pos 37 ∷ pos 1 ∷ pos 0 ∷ pos 8 ∷ pos 1 ∷ pos 0 ∷ pos 16 ∷ pos 1 ∷ pos 0 ∷ pos 4 ∷ []);
     }
     -- G: factor 0/1, caps 5 and 10, trace 2,8: one bucket (5, 3), cost 30
@@ -149,7 +136,7 @@ table =
     ∷ []
 
 table-right : allRight table ≡ true
-unfolding table half sold printed fee empty uneven case depthRow singleRow costRow bucketRows seriesRow seriesAt trialRow meterRow allRight startOf sumOf carriesFrom gaps leastOf spareFrom trialFigures meterOk offerOf afterOffers firstFrom depthOf costOf smaller preferred bestOf singleOf total longer wins bestFirst bests seriesOf
+unfolding table half tariff printed withFee capped uneven empty case depthRow singleRow costRow bucketRows seriesRow seriesAt trialRow meterRow allRight startOf sumOf carriesFrom gaps leastOf spareFrom trialFigures meterOk offerOf afterOffers firstFrom depthOf costOf smaller preferred bestOf singleOf total longer wins bestFirst bests seriesOf
 table-right = refl
 
 pub figures-hold : Hold table

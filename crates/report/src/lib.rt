@@ -42,6 +42,15 @@ pub fn end_line() {
     words(b"\n");
 }
 
+// A line with the number of cases, and in how many of them two answers agreed.
+pub fn agreement(cases: u32, agreed: u32) {
+    words(b"cases");
+    number(cases as u64);
+    words(b" agreed");
+    number(agreed as u64);
+    end_line();
+}
+
 // The word refused and the number.
 pub fn refusal(x: Refusal) {
     words(b" refused");

@@ -9,11 +9,7 @@ mod runs;
 const CASES: u32 = 421_200;
 
 fn main() {
-    report::words(b"cases");
-    report::number(CASES as u64);
-    report::words(b" agreed");
-    report::number(agreed() as u64);
-    report::end_line();
+    report::agreement(CASES, agreed());
 }
 
 fn agreed() -> u32 {

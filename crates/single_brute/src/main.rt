@@ -6,11 +6,7 @@ mod cases;
 const CASES: u32 = 450_000;
 
 fn main() {
-    report::words(b"cases");
-    report::number(CASES as u64);
-    report::words(b" agreed");
-    report::number(agreed() as u64);
-    report::end_line();
+    report::agreement(CASES, agreed());
 }
 
 fn agreed() -> u32 {
