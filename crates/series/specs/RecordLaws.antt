@@ -119,18 +119,18 @@ HasBucket t run = (x : BucketRecord) × (runRecord t run ≡ figures x)
 module _ (t : Tariff) (h : TariffRange t) (ds : List ℕ) (few : length ds ≤ traceLimit) (costs counts firsts : List ℕ) (k : Kept t ds 0 costs counts firsts) where
   -- Without a cost no cutting is carried.
   pub kept-none : getD costs 0 0 ≡ unpriced → cheapestCut t ds ≡ refused 7
-  kept-none e = outline-none t h ds few (cheapestCut t ds) (series-is t ds) (sym (k .cost 0 (omega arith) (omega arith)) ∙ e)
+  kept-none e = outline-none t h ds few (cheapestCut t ds) (series-is t ds) (sym (k .cost .at 0 (omega arith) (omega arith)) ∙ e)
 
   -- With one its runs can be recorded, and its figures are the plan's.
   module _ (n : getD costs 0 0 ≡ unpriced → ⊥) where
     found : (xs : Cutting) × (cheapestCut t ds ≡ figures xs)
-    found = outline-found t h ds few (cheapestCut t ds) (λ e. n (k .cost 0 (omega arith) (omega arith) ∙ e))
+    found = outline-found t h ds few (cheapestCut t ds) (λ e. n (k .cost .at 0 (omega arith) (omega arith) ∙ e))
 
     pub kept-firsts : Firsts t ds firsts
-    kept-firsts = record { cut = found .0; found = found .1; room = k .first-room; first = λ j l. k .first j (omega arith) l }
+    kept-firsts = record { cut = found .0; found = found .1; room = k .first .room; first = λ j l. k .first .at j (omega arith) l }
 
     pub kept-plan : figures (record { buckets = getD counts 0 0; cost = getD costs 0 0 }) ≡ planOf t (cheapestCut t ds)
     kept-plan =
-        ap (λ (m : ℕ). figures (record { buckets = m; cost = getD costs 0 0 })) (k .count 0 (omega arith) (omega arith))
-        ∙ ap (λ (m : ℕ). figures (record { buckets = outlineFrom t ds 0 .buckets; cost = m })) (k .cost 0 (omega arith) (omega arith))
+        ap (λ (m : ℕ). figures (record { buckets = m; cost = getD costs 0 0 })) (k .count .at 0 (omega arith) (omega arith))
+        ∙ ap (λ (m : ℕ). figures (record { buckets = outlineFrom t ds 0 .buckets; cost = m })) (k .cost .at 0 (omega arith) (omega arith))
         ∙ sym (outline-plan t (cheapestCut t ds) (found .0) (found .1))

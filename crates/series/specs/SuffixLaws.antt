@@ -32,22 +32,35 @@ use Rattle.series.specs.PriceLaws.{Prices, price-below}
 abbrev pub outlineFrom : Tariff → List ℕ → ℕ → Outline
 outlineFrom t ds j = outlineOf t (cheapestCut t (drop j ds))
 
--- The lists hold the outlines from period `from` on, counted from 0; the last is that of no period.
-pub record Kept (t : Tariff) (ds : List ℕ) (from : ℕ) (costs counts firsts : List ℕ) : Type 0 where
-  pub cost-room : length ds < length costs
-  pub count-room : length ds < length counts
-  pub first-room : length ds < length firsts
-  pub cost : (j : ℕ) → from ≤ j → j ≤ length ds → getD costs j 0 ≡ outlineFrom t ds j .cost
-  pub count : (j : ℕ) → from ≤ j → j ≤ length ds → getD counts j 0 ≡ outlineFrom t ds j .buckets
-  pub first : (j : ℕ) → from ≤ j → j ≤ length ds → getD firsts j 0 ≡ outlineFrom t ds j .first
+-- The figures of an outline, each kept in a list of its own.
+abbrev pub keptCost : Outline → ℕ
+keptCost o = o .cost
 
--- The lists hold the outlines of what is left of some periods after 1, 2, .. and all of them.
+abbrev pub keptCount : Outline → ℕ
+keptCount o = o .buckets
+
+abbrev pub keptFirst : Outline → ℕ
+keptFirst o = o .first
+
+-- The list holds one figure of the outlines from period `from` on, counted from 0; the last is that of no period.
+pub record Held (figure : Outline → ℕ) (t : Tariff) (ds : List ℕ) (from : ℕ) (list : List ℕ) : Type 0 where
+  pub room : length ds < length list
+  pub at : (j : ℕ) → from ≤ j → j ≤ length ds → getD list j 0 ≡ figure (outlineFrom t ds j)
+
+pub record Kept (t : Tariff) (ds : List ℕ) (from : ℕ) (costs counts firsts : List ℕ) : Type 0 where
+  pub cost : Held keptCost t ds from costs
+  pub count : Held keptCount t ds from counts
+  pub first : Held keptFirst t ds from firsts
+
+-- The list holds one figure of the outlines of what is left of some periods after 1, 2, .. and all of them.
+pub record After (figure : Outline → ℕ) (t : Tariff) (ds list : List ℕ) : Type 0 where
+  pub all : length list ≡ length ds
+  pub at : (i : ℕ) → i < length ds → getD list i 0 ≡ figure (outlineFrom t ds (suc i))
+
 pub record Left (t : Tariff) (ds : List ℕ) (costs counts : List ℕ) : Type 0 where
   pub some : 0 < length ds
-  pub costs-all : length costs ≡ length ds
-  pub counts-all : length counts ≡ length ds
-  pub cost : (i : ℕ) → i < length ds → getD costs i 0 ≡ outlineFrom t ds (suc i) .cost
-  pub count : (i : ℕ) → i < length ds → getD counts i 0 ≡ outlineFrom t ds (suc i) .buckets
+  pub cost : After keptCost t ds costs
+  pub count : After keptCount t ds counts
 
 module _ (t : Tariff) (h : TariffRange t) (ds : List ℕ) (few : length ds ≤ traceLimit) (prices costs counts : List ℕ) (p : Prices t ds (candidates t) prices) (k : Left t ds costs counts) where
   left-price : (i : ℕ) → i < length ds → getD prices i 0 ≤ unpriced
@@ -55,19 +68,23 @@ module _ (t : Tariff) (h : TariffRange t) (ds : List ℕ) (few : length ds ≤ t
       subst (λ (n : ℕ). n ≤ unpriced) (sym (p .each i l))
       (price-below t (take (i + 1) ds) h (omega (arith, length-take-le (i + 1) ds (omega arith))) (candidates t) (le-refl _))
 
-  left-few : (i : ℕ) → length (drop (suc i) ds) ≤ traceLimit
-  left-few i = omega (arith, length-drop (suc i) ds)
+  -- A bound on a figure of every outline is one on the list.
+  left-bound : (figure : Outline → ℕ) (limit : ℕ) (list : List ℕ) → ((es : List ℕ) → length es ≤ traceLimit → (a : Answer Cutting) → IsSeries t es a → figure (outlineOf t a) ≤ limit)
+      → After figure t ds list → (i : ℕ) → i < length ds → getD list i 0 ≤ limit
+  left-bound figure limit list bound a i l =
+      subst (λ (n : ℕ). n ≤ limit) (sym (a .at i l)) (bound (drop (suc i) ds) (omega (arith, length-drop (suc i) ds)) (cheapestCut t (drop (suc i) ds)) (series-is t (drop (suc i) ds)))
 
   -- The lists can be added up.
   pub left-range : OutlineRange prices costs counts
   left-range =
+      let n = k .cost .all in
       record {
-        few = omega (arith, k .costs-all);
-        priced = omega (arith, k .costs-all, p .room);
-        counted = omega (arith, k .costs-all, k .counts-all);
-        price = λ i l. left-price i (omega (arith, k .costs-all));
-        cost = λ i l. subst (λ (n : ℕ). n ≤ unpriced) (sym (k .cost i (omega (arith, k .costs-all)))) (outline-cost t h (drop (suc i) ds) (left-few i) (cheapestCut t (drop (suc i) ds)) (series-is t (drop (suc i) ds)));
-        count = λ i l. subst (λ (n : ℕ). n ≤ traceLimit) (sym (k .count i (omega (arith, k .costs-all)))) (outline-count t h (drop (suc i) ds) (left-few i) (cheapestCut t (drop (suc i) ds)) (series-is t (drop (suc i) ds)));
+        few = omega (arith, n);
+        priced = omega (arith, n, p .room);
+        counted = omega (arith, n, k .count .all);
+        price = λ i l. left-price i (omega (arith, n));
+        cost = λ i l. left-bound keptCost unpriced costs (outline-cost t h) (k .cost) i (omega (arith, n));
+        count = λ i l. left-bound keptCount traceLimit counts (outline-count t h) (k .count) i (omega (arith, n));
       }
 
 -- The best first run gives the outline of the best cutting.
@@ -77,12 +94,13 @@ unfolding bests
 left-best t h [] few prices costs counts p k = absurd (omega (arith, k .some))
 left-best t h (d ∷ ds) few prices costs counts p k =
     let rests = bests runLength (runCost t) (runRecord t) ds in
-    ap (firstOutline prices costs counts) (k .costs-all)
+    let at : (i : ℕ) → i < length (d ∷ ds) → cheapestCut t (drop i ds) ≡ getD rests i (refused 7) = λ i l. sym (bests-at runLength (runCost t) (runRecord t) ds i (omega arith)) in
+    ap (firstOutline prices costs counts) (k .cost .all)
     ∙ first-outline t h (d ∷ ds) few rests (λ n l. bests-are runLength (runCost t) (ServesRun t) (runRecord t) (run-chosen t) ds n (omega arith)) prices costs counts
     (record {
       price = λ i l. p .each i l ∙ ap (λ (n : ℕ). priceOf (cheapestOf t (take n (d ∷ ds)))) (add-one i);
-      cost = λ i l. k .cost i l ∙ ap (λ (a : Answer Cutting). outlineOf t a .cost) (sym (bests-at runLength (runCost t) (runRecord t) ds i (omega arith)));
-      count = λ i l. k .count i l ∙ ap (λ (a : Answer Cutting). outlineOf t a .buckets) (sym (bests-at runLength (runCost t) (runRecord t) ds i (omega arith)));
+      cost = λ i l. k .cost .at i l ∙ ap (λ (a : Answer Cutting). outlineOf t a .cost) (at i l);
+      count = λ i l. k .count .at i l ∙ ap (λ (a : Answer Cutting). outlineOf t a .buckets) (at i l);
     })
     (length (d ∷ ds)) (le-refl _)
 
@@ -110,7 +128,7 @@ set-before f xs start end v room e all j l m = go (eqb j start) refl
         ap (λ (n : ℕ). getD (set xs start v) n 0) i ∙ getD-set-same xs start v 0 room ∙ e ∙ ap f (sym i)
     go false g = getD-set-other xs start j v 0 (eqb-false j start g) ∙ all j (omega (arith, eqb-false)) m
 
-module _ (t : Tariff) (ds costs counts firsts : List ℕ) (start : ℕ) (l : start < length ds) (k : Kept t ds (suc start) costs counts firsts) where
+module _ (t : Tariff) (ds : List ℕ) (start : ℕ) (l : start < length ds) where
   left-length : length (drop start ds) ≡ length ds - start
   left-length = length-drop start ds
 
@@ -120,30 +138,29 @@ module _ (t : Tariff) (ds costs counts firsts : List ℕ) (start : ℕ) (l : sta
       let e : suc start + i ≡ start + suc i = omega arith in
       ap (λ (es : List ℕ). outlineOf t (cheapestCut t es)) (ap (λ (n : ℕ). drop n ds) e ∙ sym (drop-drop (suc i) start ds))
 
-  pub kept-left : Left t (drop start ds) (take (length ds + 1 - suc start) (drop (suc start) costs)) (take (length ds + 1 - suc start) (drop (suc start) counts))
-  kept-left =
-      record {
-        some = omega (arith, left-length);
-        costs-all = part-length costs (suc start) (length ds + 1 - suc start) (omega (arith, k .cost-room)) ∙ omega (arith, left-length);
-        counts-all = part-length counts (suc start) (length ds + 1 - suc start) (omega (arith, k .count-room)) ∙ omega (arith, left-length);
-        cost = λ i m.
-            part-at costs (suc start) (length ds + 1 - suc start) i (omega (arith, left-length))
-            ∙ k .cost (suc start + i) (omega arith) (omega (arith, left-length)) ∙ ap (λ (o : Outline). o .cost) (left-on i);
-        count = λ i m.
-            part-at counts (suc start) (length ds + 1 - suc start) i (omega (arith, left-length))
-            ∙ k .count (suc start + i) (omega arith) (omega (arith, left-length)) ∙ ap (λ (o : Outline). o .buckets) (left-on i);
-      }
+  module _ (figure : Outline → ℕ) (list : List ℕ) (k : Held figure t ds (suc start) list) where
+    held-after : After figure t (drop start ds) (take (length ds + 1 - suc start) (drop (suc start) list))
+    held-after =
+        record {
+          all = part-length list (suc start) (length ds + 1 - suc start) (omega (arith, k .room)) ∙ omega (arith, left-length);
+          at = λ i m.
+              part-at list (suc start) (length ds + 1 - suc start) i (omega (arith, left-length))
+              ∙ k .at (suc start + i) (omega arith) (omega (arith, left-length)) ∙ ap figure (left-on i);
+        }
 
-  pub kept-more : (o : Outline) → o ≡ outlineFrom t ds start → Kept t ds start (set costs start (o .cost)) (set counts start (o .buckets)) (set firsts start (o .first))
-  kept-more o e =
-      record {
-        cost-room = omega (arith, k .cost-room, length-set costs start (o .cost));
-        count-room = omega (arith, k .count-room, length-set counts start (o .buckets));
-        first-room = omega (arith, k .first-room, length-set firsts start (o .first));
-        cost = set-before (λ j. outlineFrom t ds j .cost) costs start (length ds) (o .cost) (omega (arith, k .cost-room)) (ap (λ (o : Outline). o .cost) e) (k .cost);
-        count = set-before (λ j. outlineFrom t ds j .buckets) counts start (length ds) (o .buckets) (omega (arith, k .count-room)) (ap (λ (o : Outline). o .buckets) e) (k .count);
-        first = set-before (λ j. outlineFrom t ds j .first) firsts start (length ds) (o .first) (omega (arith, k .first-room)) (ap (λ (o : Outline). o .first) e) (k .first);
-      }
+    held-more : (o : Outline) → o ≡ outlineFrom t ds start → Held figure t ds start (set list start (figure o))
+    held-more o e =
+        record {
+          room = omega (arith, k .room, length-set list start (figure o));
+          at = set-before (λ j. figure (outlineFrom t ds j)) list start (length ds) (figure o) (omega (arith, k .room)) (ap figure e) (k .at);
+        }
+
+  module _ (costs counts firsts : List ℕ) (k : Kept t ds (suc start) costs counts firsts) where
+    pub kept-left : Left t (drop start ds) (take (length ds + 1 - suc start) (drop (suc start) costs)) (take (length ds + 1 - suc start) (drop (suc start) counts))
+    kept-left = record { some = omega (arith, left-length); cost = held-after keptCost costs (k .cost); count = held-after keptCount counts (k .count) }
+
+    pub kept-more : (o : Outline) → o ≡ outlineFrom t ds start → Kept t ds start (set costs start (o .cost)) (set counts start (o .buckets)) (set firsts start (o .first))
+    kept-more o e = record { cost = held-more keptCost costs (k .cost) o e; count = held-more keptCount counts (k .count) o e; first = held-more keptFirst firsts (k .first) o e }
 
 -- ---- Before the first turn and after the last
 
@@ -152,17 +169,11 @@ none-left : (t : Tariff) (ds : List ℕ) (j : ℕ) → length ds ≤ j → outli
 unfolding bests total
 none-left t ds j l = ap (λ (es : List ℕ). outlineOf t (cheapestCut t es)) (drop-of-length-le ds l)
 
+held-start : (figure : Outline → ℕ) (t : Tariff) (ds : List ℕ) → length ds ≤ traceLimit → figure (record { cost = 0; buckets = 0; first = 0 }) ≡ 0 → Held figure t ds (length ds) (replicate 513 0)
+held-start figure t ds few z = record { room = omega arith; at = λ j l m. getD-replicate 513 j 0 0 (omega arith) ∙ sym z ∙ ap figure (sym (none-left t ds j l)) }
+
 pub kept-start : (t : Tariff) (ds : List ℕ) → length ds ≤ traceLimit → Kept t ds (length ds) (replicate 513 0) (replicate 513 0) (replicate 513 0)
-kept-start t ds few =
-    let zeros : (j : ℕ) → j ≤ length ds → _≡_ {A = ℕ} (getD (replicate 513 0) j 0) 0 = λ j l. getD-replicate 513 j 0 0 (omega arith) in
-    record {
-      cost-room = omega arith;
-      count-room = omega arith;
-      first-room = omega arith;
-      cost = λ j l m. zeros j m ∙ ap (λ (o : Outline). o .cost) (sym (none-left t ds j l));
-      count = λ j l m. zeros j m ∙ ap (λ (o : Outline). o .buckets) (sym (none-left t ds j l));
-      first = λ j l m. zeros j m ∙ ap (λ (o : Outline). o .first) (sym (none-left t ds j l));
-    }
+kept-start t ds few = record { cost = held-start keptCost t ds few refl; count = held-start keptCount t ds few refl; first = held-start keptFirst t ds few refl }
 
 -- An outline without a cost is that of refusal 7, and one with a cost gives the figures of a plan.
 module _ (t : Tariff) (h : TariffRange t) (ds : List ℕ) (few : length ds ≤ traceLimit) where

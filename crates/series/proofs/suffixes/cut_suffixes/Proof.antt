@@ -33,7 +33,7 @@ module _ (t : Tariff) (ds costs₀ counts₀ firsts₀ : List ℕ) (next : ℕ) 
   left =
       subst (λ (es : List ℕ). Left t es (take (length ds + 1 - next) (drop next costs)) (take (length ds + 1 - next) (drop next counts))) (sym (part-rest ds (next - 1)))
       (subst (λ (n : ℕ). Left t (drop (next - 1) ds) (take (length ds + 1 - n) (drop n costs)) (take (length ds + 1 - n) (drop n counts))) one-before
-      (kept-left t ds costs counts firsts (next - 1) (omega (arith, k .inside)) kept-next))
+      (kept-left t ds (next - 1) (omega (arith, k .inside)) costs counts firsts kept-next))
 
   step : (o : Outline) → o ≡ outlineOf t (cheapestCut t (take (length ds - (next - 1)) (drop (next - 1) ds)))
       → Keeping t ds costs₀ counts₀ firsts₀ (next - 1) (set costs (next - 1) (o .cost)) (set counts (next - 1) (o .buckets)) (set firsts (next - 1) (o .first))
@@ -44,7 +44,7 @@ module _ (t : Tariff) (ds costs₀ counts₀ firsts₀ : List ℕ) (next : ℕ) 
         counts-same = length-set counts (next - 1) (o .buckets) ∙ k .counts-same;
         firsts-same = length-set firsts (next - 1) (o .first) ∙ k .firsts-same;
         kept =
-            kept-more t ds costs counts firsts (next - 1) (omega (arith, k .inside)) kept-next o
+            kept-more t ds (next - 1) (omega (arith, k .inside)) costs counts firsts kept-next o
             (e ∙ ap (λ (es : List ℕ). outlineOf t (cheapestCut t es)) (part-rest ds (next - 1)));
       }
 
