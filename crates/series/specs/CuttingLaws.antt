@@ -118,7 +118,8 @@ module _ {X : Type 0} (periods price : X → ℕ) (Fits : List ℕ → X → Typ
           subst (λ (n : ℕ). Cut (drop n ds) ys) (b .first) (c .1),
         )
 
-    best-joined : (a : Answer X) → IsChoice (take (suc k) ds) a → (r : Answer (List X)) → IsBestCut periods price (Cut (drop (suc k) ds)) r → IsBestCut periods price (Begins ds (suc k)) (joined a r)
+    best-joined : (a : Answer X) → IsChoice (take (suc k) ds) a → (r : Answer (List X)) → IsBestCut periods price (Cut (drop (suc k) ds)) r
+        → IsBestCut periods price (Begins ds (suc k)) (joined a r)
     best-joined (figures x) o (figures xs) b = record { kind = begins x xs (o .whole) (o .fits) (b .kind); none-preferred = beaten }
       where
         beaten : (ys : List X) → Begins ds (suc k) ys → wins periods price ys (x ∷ xs) ≡ false

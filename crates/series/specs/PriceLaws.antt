@@ -41,7 +41,8 @@ module _ (t : Tariff) (ds : List ℕ) (h : TariffRange t) (few : length ds ≤ t
   best-below : (k : ℕ) (a : Answer Priced) → IsBestOf t ds k a → k ≤ candidates t → priceOf a ≤ unpriced
   best-below k (refused n) b l = omega arith
   best-below k (figures x) b l =
-      omega (arith, b .kind .paid, cost-below t (x .bucket) (length ds) h (record { rates = omega (arith, b .kind .rates, h .rate-caps); depths = le-trans (b .kind .serves .inside) (h .depth-caps) }) few)
+      let r : BucketRange (x .bucket) = record { rates = omega (arith, b .kind .rates, h .rate-caps); depths = le-trans (b .kind .serves .inside) (h .depth-caps) } in
+      omega (arith, b .kind .paid, cost-below t (x .bucket) (length ds) h r few)
 
   pub price-below : (k : ℕ) → k ≤ candidates t → priceOf (bestOf t ds k) ≤ unpriced
   price-below k l = best-below k (bestOf t ds k) (best-is t ds k) l

@@ -96,7 +96,8 @@ module _ (figure : BucketRecord → ℕ) (cut : Cutting) (old new : List ℕ) wh
   pub stored-none : Stored figure cut 0 old old
   stored-none = record { same = refl; is = refl }
 
-  pub stored-next : (k v : ℕ) → figure noRecord ≡ 0 → k < length cut → k < length old → v ≡ figure (getD cut k noRecord) → Stored figure cut k old new → Stored figure cut (k + 1) old (set new k v)
+  pub stored-next : (k v : ℕ) → figure noRecord ≡ 0 → k < length cut → k < length old → v ≡ figure (getD cut k noRecord)
+      → Stored figure cut k old new → Stored figure cut (k + 1) old (set new k v)
   stored-next k v z l m e s =
       let f : v ≡ getD (map figure cut) k 0 = e ∙ sym (List·getD-map figure cut k noRecord) ∙ ap (getD (map figure cut) k) z in
       record {

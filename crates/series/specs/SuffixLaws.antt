@@ -69,7 +69,8 @@ module _ (t : Tariff) (h : TariffRange t) (ds : List ℕ) (few : length ds ≤ t
       (price-below t (take (i + 1) ds) h (omega (arith, length-take-le (i + 1) ds (omega arith))) (candidates t) (le-refl _))
 
   -- A bound on a figure of every outline is one on the list.
-  left-bound : (figure : Outline → ℕ) (limit : ℕ) (list : List ℕ) → ((es : List ℕ) → length es ≤ traceLimit → (a : Answer Cutting) → IsSeries t es a → figure (outlineOf t a) ≤ limit)
+  left-bound : (figure : Outline → ℕ) (limit : ℕ) (list : List ℕ)
+      → ((es : List ℕ) → length es ≤ traceLimit → (a : Answer Cutting) → IsSeries t es a → figure (outlineOf t a) ≤ limit)
       → After figure t ds list → (i : ℕ) → i < length ds → getD list i 0 ≤ limit
   left-bound figure limit list bound a i l =
       subst (λ (n : ℕ). n ≤ limit) (sym (a .at i l)) (bound (drop (suc i) ds) (omega (arith, length-drop (suc i) ds)) (cheapestCut t (drop (suc i) ds)) (series-is t (drop (suc i) ds)))
@@ -169,7 +170,8 @@ none-left : (t : Tariff) (ds : List ℕ) (j : ℕ) → length ds ≤ j → outli
 unfolding bests total
 none-left t ds j l = ap (λ (es : List ℕ). outlineOf t (cheapestCut t es)) (drop-of-length-le ds l)
 
-held-start : (figure : Outline → ℕ) (t : Tariff) (ds : List ℕ) → length ds ≤ traceLimit → figure (record { cost = 0; buckets = 0; first = 0 }) ≡ 0 → Held figure t ds (length ds) (replicate 513 0)
+held-start : (figure : Outline → ℕ) (t : Tariff) (ds : List ℕ) → length ds ≤ traceLimit → figure (record { cost = 0; buckets = 0; first = 0 }) ≡ 0
+    → Held figure t ds (length ds) (replicate 513 0)
 held-start figure t ds few z = record { room = omega arith; at = λ j l m. getD-replicate 513 j 0 0 (omega arith) ∙ sym z ∙ ap figure (sym (none-left t ds j l)) }
 
 pub kept-start : (t : Tariff) (ds : List ℕ) → length ds ≤ traceLimit → Kept t ds (length ds) (replicate 513 0) (replicate 513 0) (replicate 513 0)

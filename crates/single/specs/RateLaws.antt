@@ -69,7 +69,9 @@ module _ (t : Tariff) (ds : List ℕ) where
   above-none (refused n) e k m = absurd (k .1 (here t ds (greatest ds) 0) (with-rate t ds (λ r. r < greatest ds + 1) (greatest ds) 0 (omega arith) zero-depth))
   above-none (figures x) e k m =
       sym (weighed-on (greatest ds + 1) x e
-      (λ r m B s. not-preferred-trans x _ _ (none-before t ds (greatest ds + 1) x k (greatest ds) (omega arith) 0 zero-depth) (larger-not-preferred t (length ds) (bucketOf (greatest ds) 0) (bucketOf r B) (omega arith) (omega arith)))
+      (λ r m B s.
+      not-preferred-trans x _ _ (none-before t ds (greatest ds + 1) x k (greatest ds) (omega arith) 0 zero-depth)
+      (larger-not-preferred t (length ds) (bucketOf (greatest ds) 0) (bucketOf r B) (omega arith) (omega arith)))
       m)
 
   -- No rate above the greatest demand need be weighed, and to weigh some of them does no harm.

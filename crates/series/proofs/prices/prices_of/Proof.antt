@@ -46,8 +46,9 @@ slice-aggregate-weigh-rate c = c .before .before .loop .inv .whole
 weigh-rate-requires : tie.Need-weigh-rate-requires Inv-loop μ-loop
 weigh-rate-requires c κs =
     let l = c .before .before in
-    let h = l .before .before .before .pre in
-    (h .0, (h .1, (inside-cap (l .before .before .before .args .tariff) (l .before .before .before .args .trace .now) _ _ (l .before .rates-to-weigh .ensures) (c .before .loop-test .taken), l .loop .inv .so-far)))
+    let s = l .before .before .before in
+    let slow = inside-cap (s .args .tariff) (s .args .trace .now) _ _ (l .before .rates-to-weigh .ensures) (c .before .loop-test .taken) in
+    (s .pre .0, (s .pre .1, (slow, l .loop .inv .so-far)))
 
 add-next : tie.Need-add-next Inv-loop μ-loop
 add-next c = search needs

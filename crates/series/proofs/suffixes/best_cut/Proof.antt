@@ -13,10 +13,14 @@ slice-aggregate-best-first : tie.Need-slice-aggregate-best-first
 slice-aggregate-best-first c = search needs
 
 best-first-requires : tie.Need-best-first-requires
-best-first-requires c κs = let s = c .before .before .before .before .before in left-range _ (s .pre .1 .0) _ (s .pre .0) _ _ _ (c .before .prices-of .ensures) (s .pre .1 .1)
+best-first-requires c κs =
+    let s = c .before .before .before .before .before in
+    left-range _ (s .pre .1 .0) _ (s .pre .0) _ _ _ (c .before .prices-of .ensures) (s .pre .1 .1)
 
 returns : tie.Need-returns
-returns c = let s = c .before .before .before .before .before .before in c .best-first .ensures ∙ left-best _ (s .pre .1 .0) _ (s .pre .0) _ _ _ (c .before .before .prices-of .ensures) (s .pre .1 .1)
+returns c =
+    let s = c .before .before .before .before .before .before in
+    c .best-first .ensures ∙ left-best _ (s .pre .1 .0) _ (s .pre .0) _ _ _ (c .before .before .prices-of .ensures) (s .pre .1 .1)
 
 pub best-cut-spec : {M : Type 1} → statement M
 best-cut-spec =
