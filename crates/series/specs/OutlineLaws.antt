@@ -31,6 +31,10 @@ use Rattle.series.specs.Outline.{unpriced, priceOf, outlineOf, betterOut
 
 -- ---- Costs and counts are bounded by the periods
 
+pub carried-count : (t : Tariff) {ds : List ℕ} {xs : Cutting} → Carried t ds xs → length xs ≤ length ds
+carried-count t none = omega arith
+carried-count t (run {ds} {x} {xs} f c) = omega (arith, f .some, f .inside, carried-count t c, length-drop (x .periods) ds)
+
 module _ (t : Tariff) (h : TariffRange t) where
   pub carried-cost : {ds : List ℕ} {xs : Cutting} → Carried t ds xs → trueCost t xs ≤ (periodLimit + feeLimit) * length ds
   unfolding total
@@ -40,10 +44,6 @@ module _ (t : Tariff) (h : TariffRange t) where
       let p = cost-le {t = t} {b = x .bucket} h (record { rates = le-trans (s .rates) (h .rate-caps); depths = le-trans (s .depths) (h .depth-caps) }) (x .periods) in
       omega (arith, p, f .some, f .inside, carried-cost c, length-drop (x .periods) ds)
 
-  pub carried-count : {ds : List ℕ} {xs : Cutting} → Carried t ds xs → length xs ≤ length ds
-  carried-count none = omega arith
-  carried-count (run {ds} {x} {xs} f c) = omega (arith, f .some, f .inside, carried-count c, length-drop (x .periods) ds)
-
   pub carried-below : {ds : List ℕ} {xs : Cutting} → length ds ≤ traceLimit → Carried t ds xs → trueCost t xs < unpriced
   carried-below few c = omega (arith, carried-cost c)
 
@@ -52,7 +52,7 @@ module _ (t : Tariff) (h : TariffRange t) where
   outline-cost ds few (refused n) k = omega arith
 
   pub outline-count : (ds : List ℕ) → length ds ≤ traceLimit → (a : Answer Cutting) → IsSeries t ds a → outlineOf t a .buckets ≤ traceLimit
-  outline-count ds few (figures xs) k = le-trans (carried-count (k .kind)) few
+  outline-count ds few (figures xs) k = le-trans (carried-count t (k .kind)) few
   outline-count ds few (refused n) k = omega arith
 
 -- ---- The later one of two

@@ -40,6 +40,10 @@ pub record-single : (t : Tariff) (run : List ℕ) → TariffRange t → PeriodsR
 unfolding singleOf
 record-single t run h few = rw (periods-ok _ few, tariff-ok t h) refl
 
+-- A run that has a bucket.
+abbrev pub HasBucket : Tariff → List ℕ → Type 0
+HasBucket t run = (x : BucketRecord) × (runRecord t run ≡ figures x)
+
 -- Stands past the end of a list of records.
 abbrev pub noRecord : BucketRecord
 noRecord = record { periods = 0; bucket = bucketOf 0 0 }
@@ -59,7 +63,7 @@ module _ (t : Tariff) (ds : List ℕ) (all : Cutting) (start k : ℕ) (l : start
     where
       go : (ys : Cutting) → drop k all ≡ ys → k < length all
       go [] f =
-          let none = best-of-none runLength (runCost t) (runRecord t) (record-whole t) (drop start ds) (e ∙ ap figures f) in
+          let none = best-of-none runLength (runCost t) (runRecord t) (drop start ds) (e ∙ ap figures f) in
           absurd (omega (arith, length-drop start ds, ap length none))
       go (y ∷ ys) f = omega (arith, length-drop k all, ap length f)
 
@@ -92,10 +96,10 @@ pub record Stored (figure : BucketRecord → ℕ) (cut : Cutting) (k : ℕ) (old
   pub same : length new ≡ length old
   pub is : new ≡ front k (map figure cut) old
 
-module _ (figure : BucketRecord → ℕ) (cut : Cutting) (old new : List ℕ) where
-  pub stored-none : Stored figure cut 0 old old
-  stored-none = record { same = refl; is = refl }
+pub stored-none : (figure : BucketRecord → ℕ) (cut : Cutting) (old : List ℕ) → Stored figure cut 0 old old
+stored-none figure cut old = record { same = refl; is = refl }
 
+module _ (figure : BucketRecord → ℕ) (cut : Cutting) (old new : List ℕ) where
   pub stored-next : (k v : ℕ) → figure noRecord ≡ 0 → k < length cut → k < length old → v ≡ figure (getD cut k noRecord)
       → Stored figure cut k old new → Stored figure cut (k + 1) old (set new k v)
   stored-next k v z l m e s =
@@ -111,10 +115,6 @@ module _ (figure : BucketRecord → ℕ) (cut : Cutting) (old new : List ℕ) wh
       ∙ ap (λ (n : ℕ). front n (map figure cut) old) e
       ∙ ap (λ (ys : List ℕ). ys ++ drop (length cut) old) (take-all (length cut) (map figure cut) (le-of-eq (length-map cut figure)))
 
--- A run that has a bucket.
-abbrev pub HasBucket : Tariff → List ℕ → Type 0
-HasBucket t run = (x : BucketRecord) × (runRecord t run ≡ figures x)
-
 -- ---- The outline from the first period on
 
 module _ (t : Tariff) (h : TariffRange t) (ds : List ℕ) (few : length ds ≤ traceLimit) (costs counts firsts : List ℕ) (k : Kept t ds 0 costs counts firsts) where
@@ -125,7 +125,7 @@ module _ (t : Tariff) (h : TariffRange t) (ds : List ℕ) (few : length ds ≤ t
   -- With one its runs can be recorded, and its figures are the plan's.
   module _ (n : getD costs 0 0 ≡ unpriced → ⊥) where
     found : (xs : Cutting) × (cheapestCut t ds ≡ figures xs)
-    found = outline-found t h ds few (cheapestCut t ds) (λ e. n (k .cost .at 0 (omega arith) (omega arith) ∙ e))
+    found = outline-found t (cheapestCut t ds) (λ e. n (k .cost .at 0 (omega arith) (omega arith) ∙ e))
 
     pub kept-firsts : Firsts t ds firsts
     kept-firsts = record { cut = found .0; found = found .1; room = k .first .room; first = λ j l. k .first .at j (omega arith) l }

@@ -1,14 +1,14 @@
 -- How the best cutting is put together: its first run has its `choice`, and it goes on with the best cutting of
 -- what is left.
 -- Assumes nothing.
-use Prim.Native.Nat.{ℕ, zero, suc, _≤_, _<_}
+use Prim.Native.Nat.{ℕ, zero, suc, _≤_}
 use native.Mathlib.Omega.{arith}
 use mathlib.Core.Path.{_≡_, refl, sym, ap, subst, _∙_}
 use mathlib.Core.Bool.{Bool, true, false, true≢false, cond}
 use mathlib.Core.List.{List, [], _∷_, nil≢cons, head-eq-of-cons-eq, tail-eq-of-cons-eq}
 use mathlib.Core.Logic.{_⊎_, inl, inr, ⊎-elim}
 use lib.ListN.{length, take, drop, getD}
-use lib.Seq.{length-take-le, drop-cons}
+use lib.Seq.{length-take-le}
 use Rattle.terms.specs.Answer.{Answer, figures, refused, choose}
 use Rattle.terms.specs.AnswerLaws.{figures-refused, same-figures}
 use Rattle.single.specs.PreferenceLaws.{smaller-same}
@@ -52,12 +52,6 @@ module _ {X : Type 0} (periods price : X → ℕ) (choice : List ℕ → Answer 
   bests-at [] (suc n) l = absurd (omega arith)
   bests-at (d ∷ ds) (suc n) l = bests-at ds n (omega arith)
 
-  -- The best from one period on, by the first run.
-  pub best-from : (ds : List ℕ) (n : ℕ) → n < length ds
-      → best periods price choice (drop n ds) ≡ bestFirst periods price choice (drop n ds) (bests periods price choice (drop (suc n) ds)) (length (drop n ds))
-  unfolding bests
-  best-from ds n l = rw (drop-cons ds n 0 l) refl
-
   -- The choice for some first run, and what follows it.
   record Made (ds : List ℕ) (rests : List (Answer (List X))) (k : ℕ) (ys : List X) : Type 0 where
     length : ℕ
@@ -71,6 +65,12 @@ module _ {X : Type 0} (periods price : X → ℕ) (choice : List ℕ → Answer 
       ⊎-elim (λ f. let c = first-made ds rests k f in record { length = c .length; inside = omega (arith, c .inside); made = c .made })
       (λ f. record { length = k; inside = omega arith; made = parts (choice (take (suc k) ds)) (getD rests k (refused 7)) f })
       (choose-either (wins periods price) (bestFirst periods price choice ds rests k) (joined (choice (take (suc k) ds)) (getD rests k (refused 7))) e)
+
+  -- Only no period is cut into no run.
+  pub best-of-none : (ds : List ℕ) → best periods price choice ds ≡ figures [] → ds ≡ []
+  unfolding bests
+  best-of-none [] e = refl
+  best-of-none (d ∷ ds) e = absurd (nil≢cons (first-made (d ∷ ds) (bests periods price choice ds) (length (d ∷ ds)) e .made .all))
 
   module _ (whole : (ds : List ℕ) (x : X) → choice ds ≡ figures x → periods x ≡ length ds) where
     -- The first run of the best cutting: its length, its choice and what follows it.
@@ -97,11 +97,6 @@ module _ {X : Type 0} (periods price : X → ℕ) (choice : List ℕ → Answer 
           first = subst (λ (i : ℕ). choice (take i (d ∷ ds)) ≡ figures x) m taken;
           onward = subst (λ (i : ℕ). best periods price choice (drop i (d ∷ ds)) ≡ figures xs) m rest;
         }
-
-    pub best-of-none : (ds : List ℕ) → best periods price choice ds ≡ figures [] → ds ≡ []
-    unfolding bests
-    best-of-none [] e = refl
-    best-of-none (d ∷ ds) e = absurd (nil≢cons (first-made (d ∷ ds) (bests periods price choice ds) (length (d ∷ ds)) e .made .all))
 
     -- Each run has its `choice`.
     pub best-choices : (ds : List ℕ) (xs : List X) → best periods price choice ds ≡ figures xs → Choices ds xs

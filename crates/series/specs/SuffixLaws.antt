@@ -2,15 +2,16 @@
 -- Assumes nothing.
 use Prim.Native.Nat.{ℕ, suc, _+_, _-_, _≤_, _<_}
 use native.Mathlib.Omega.{arith}
-use native.Mathlib.Nat.{le-refl, le-of-eq}
+use native.Mathlib.Nat.{le-refl}
 use native.Mathlib.Numerals.{add-one}
 use mathlib.Core.Path.{_≡_, refl, sym, ap, subst, _∙_}
 use mathlib.Core.Bool.{Bool, true, false}
 use mathlib.Core.List.{List, [], _∷_}
+use borrow.Rule.Slice.PartAt.{part-count}
 use borrow.Author.Tests.{eqb-true, eqb-false}
 use lib.Dec.{eqb}
 use lib.ListN.{length, take, drop, getD, set, replicate, length-set, length-drop, drop-of-length-le, getD-replicate}
-use lib.Seq.{take-all, getD-take, getD-drop, drop-drop, length-take-le, getD-set-same, getD-set-other}
+use lib.Seq.{getD-take, getD-drop, drop-drop, length-take-le, getD-set-same, getD-set-other}
 use Rattle.terms.specs.declared.Tariff.{Tariff}
 use Rattle.terms.specs.Answer.{Answer, figures, refused}
 use Rattle.terms.specs.Limits.{traceLimit}
@@ -111,13 +112,6 @@ left-best t h (d ∷ ds) few prices costs counts p k =
 part-at : (xs : List ℕ) (a n i : ℕ) → i < n → getD (take n (drop a xs)) i 0 ≡ getD xs (a + i) 0
 part-at xs a n i l = getD-take n (drop a xs) i 0 l ∙ getD-drop a xs i 0
 
-part-length : (xs : List ℕ) (a n : ℕ) → a + n ≤ length xs → length (take n (drop a xs)) ≡ n
-part-length xs a n l = length-take-le n (drop a xs) (omega (arith, length-drop a xs))
-
--- The part from one entry to the end.
-pub part-rest : (xs : List ℕ) (a : ℕ) → take (length xs - a) (drop a xs) ≡ drop a xs
-part-rest xs a = take-all (length xs - a) (drop a xs) (le-of-eq (length-drop a xs))
-
 -- A list that follows f from one entry on, and now from the entry before it.
 set-before : (f : ℕ → ℕ) (xs : List ℕ) (start end v : ℕ) → start < length xs → v ≡ f start → ((j : ℕ) → suc start ≤ j → j ≤ end → getD xs j 0 ≡ f j)
     → (j : ℕ) → start ≤ j → j ≤ end → getD (set xs start v) j 0 ≡ f j
@@ -143,7 +137,7 @@ module _ (t : Tariff) (ds : List ℕ) (start : ℕ) (l : start < length ds) wher
     held-after : After figure t (drop start ds) (take (length ds + 1 - suc start) (drop (suc start) list))
     held-after =
         record {
-          all = part-length list (suc start) (length ds + 1 - suc start) (omega (arith, k .room)) ∙ omega (arith, left-length);
+          all = sym (part-count list (suc start) (length ds + 1) (omega arith, omega (arith, k .room))) ∙ omega (arith, left-length);
           at = λ i m.
               part-at list (suc start) (length ds + 1 - suc start) i (omega (arith, left-length))
               ∙ k .at (suc start + i) (omega arith) (omega (arith, left-length)) ∙ ap figure (left-on i);
@@ -178,14 +172,14 @@ pub kept-start : (t : Tariff) (ds : List ℕ) → length ds ≤ traceLimit → K
 kept-start t ds few = record { cost = held-start keptCost t ds few refl; count = held-start keptCount t ds few refl; first = held-start keptFirst t ds few refl }
 
 -- An outline without a cost is that of refusal 7, and one with a cost gives the figures of a plan.
-module _ (t : Tariff) (h : TariffRange t) (ds : List ℕ) (few : length ds ≤ traceLimit) where
-  pub outline-none : (a : Answer Cutting) → IsSeries t ds a → outlineOf t a .cost ≡ unpriced → a ≡ refused 7
-  outline-none (figures xs) k e = absurd (omega (arith, carried-below t h few (k .kind)))
-  outline-none (refused n) k e = ap refused (k .0)
+pub outline-none : (t : Tariff) → TariffRange t → (ds : List ℕ) → length ds ≤ traceLimit → (a : Answer Cutting) → IsSeries t ds a
+    → outlineOf t a .cost ≡ unpriced → a ≡ refused 7
+outline-none t h ds few (figures xs) k e = absurd (omega (arith, carried-below t h few (k .kind)))
+outline-none t h ds few (refused n) k e = ap refused (k .0)
 
-  pub outline-found : (a : Answer Cutting) → (outlineOf t a .cost ≡ unpriced → ⊥) → (xs : Cutting) × (a ≡ figures xs)
-  outline-found (figures xs) n = (xs, refl)
-  outline-found (refused m) n = absurd (n refl)
+pub outline-found : (t : Tariff) (a : Answer Cutting) → (outlineOf t a .cost ≡ unpriced → ⊥) → (xs : Cutting) × (a ≡ figures xs)
+outline-found t (figures xs) n = (xs, refl)
+outline-found t (refused m) n = absurd (n refl)
 
 pub outline-plan : (t : Tariff) (a : Answer Cutting) (xs : Cutting) → a ≡ figures xs → planOf t a ≡ figures (record { buckets = outlineOf t a .buckets; cost = outlineOf t a .cost })
 outline-plan t a xs e = ap (planOf t) e ∙ ap (λ (b : Answer Cutting). figures (record { buckets = outlineOf t b .buckets; cost = outlineOf t b .cost })) (sym e)

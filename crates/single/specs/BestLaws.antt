@@ -21,6 +21,7 @@ use Rattle.depth.specs.Depth.{tariffDepth}
 use Rattle.depth.specs.DepthLaws.{depth-within, depth-carries, depth-least, depth-none}
 use Rattle.single.specs.declared.costs.Priced.{Priced}
 use Rattle.single.specs.Cost.{costOf, pricedAt}
+use Rattle.single.specs.CostLaws.{priced-is}
 use Rattle.single.specs.Preference.{preferred}
 use Rattle.single.specs.PreferenceLaws.{preferred-order, larger-not-preferred}
 use Rattle.single.specs.Single.{bucketOf, atDepth, better, bestOf}
@@ -43,10 +44,6 @@ module _ (t : Tariff) (ds : List ℕ) where
 
   pub with-rate : (Rates : ℕ → Type 0) (r B : ℕ) → Rates r → At r B → WithRate Rates (here r B)
   with-rate Rates r B l s = record { rates = l; serves = s; paid = refl }
-
-  -- Such a bucket is `here` at its rate and depth.
-  is-here : (Rates : ℕ → Type 0) (x : Priced) → WithRate Rates x → x ≡ here (x .bucket .rate .0) (x .bucket .depth .0)
-  is-here Rates x w = ap (λ (c : ℕ). record { bucket = x .bucket; cost = c }) (w .paid)
 
   -- The answer is the best of the first k candidate rates.
   abbrev pub IsBestOf : ℕ → Answer Priced → Type 0
@@ -72,7 +69,7 @@ module _ (t : Tariff) (ds : List ℕ) where
         record {
           kind = with-rate (λ r. r ≡ k) k B refl (found-at B e);
           none-preferred = λ x w.
-              ap (λ (y : Priced). preferred y (here k B)) (is-here (λ r. r ≡ k) x w)
+              ap (λ (y : Priced). preferred y (here k B)) (priced-is t (length ds) x (w .paid))
               ∙ larger-not-preferred t (length ds) (bucketOf k B) (x .bucket) (omega (arith, w .rates)) (depth-least _ _ _ _ _ e (x .bucket .depth .0) (at-k x w .carried));
         }
     best-at (refused n) e =

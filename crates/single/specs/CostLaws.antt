@@ -3,11 +3,17 @@
 use Prim.Native.Nat.{ℕ, _+_, _*_, _≤_}
 use native.Mathlib.Omega.{arith}
 use native.Mathlib.Nat.{mul-le-mul, mul-le-mul-left, mul-le-mul-right, add-le-add, le-add-right, le-refl}
+use mathlib.Core.Path.{_≡_, ap}
 use Rattle.terms.specs.declared.Bucket.{Bucket}
 use Rattle.terms.specs.declared.Tariff.{Tariff}
 use Rattle.terms.specs.Limits.{rateLimit, depthLimit, priceLimit, feeLimit}
 use Rattle.terms.specs.RangeLaws.{BucketRange, TariffRange}
-use Rattle.single.specs.Cost.{costOf}
+use Rattle.single.specs.declared.costs.Priced.{Priced}
+use Rattle.single.specs.Cost.{costOf, pricedAt}
+
+-- A bucket with its cost, from its cost being its own.
+pub priced-is : (t : Tariff) (n : ℕ) (x : Priced) → x .cost ≡ costOf t n (x .bucket) → x ≡ pricedAt t n (x .bucket)
+priced-is t n x e = ap (λ (c : ℕ). record { bucket = x .bucket; cost = c }) e
 
 pub cost-mono : (t : Tariff) (n : ℕ) (b c : Bucket) → b .rate .0 ≤ c .rate .0 → b .depth .0 ≤ c .depth .0 → costOf t n b ≤ costOf t n c
 unfolding costOf

@@ -16,6 +16,7 @@ use Rattle.single.specs.declared.costs.Priced.{Priced}
 use Rattle.single.specs.Cost.{costOf, pricedAt}
 use Rattle.single.specs.Preference.{preferred}
 use Rattle.single.specs.Rates.{candidates}
+use Rattle.single.specs.CostLaws.{priced-is}
 use Rattle.single.specs.PreferenceLaws.{not-preferred-cost, preferred-total}
 use Rattle.single.specs.BestLaws.{At, IsBestOf, here, with-rate, none-before, best-is}
 use Rattle.single.specs.Single.{Serves, cheapestOf, singleOf}
@@ -61,8 +62,7 @@ module _ (t : Tariff) (ds : List ℕ) where
     where
       not-before : (x y : Priced) → Cheapest t ds x → Cheapest t ds y → preferred x y ≡ false
       not-before x y k l =
-          let e : x ≡ pricedAt t (length ds) (x .bucket) = ap (λ (c : ℕ). record { bucket = x .bucket; cost = c }) (k .paid) in
-          ap (λ (z : Priced). preferred z y) e ∙ l .none-preferred (x .bucket) (k .serves)
+          ap (λ (z : Priced). preferred z y) (priced-is t (length ds) x (k .paid)) ∙ l .none-preferred (x .bucket) (k .serves)
   single-only (figures x) (refused n) k l = absurd (l .1 (x .bucket) (k .serves))
   single-only (refused m) (figures y) k l = absurd (k .1 (y .bucket) (l .serves))
   single-only (refused m) (refused n) k l = ap refused (k .0 ∙ sym (l .0))

@@ -7,13 +7,13 @@ use Rattle.series.specs.Series.{Cutting, cheapestCut, recorded, roomOf, 
 use Rattle.series.specs.SeriesLaws.{IsSeries, series-is}
 use Rattle.terms.specs.Answer.{Answer, figures}
 use Rattle.terms.specs.AnswerLaws.{same-figures}
-use Rattle.terms.specs.RangeLaws.{PeriodsRange, TariffRange}
+use Rattle.terms.specs.RangeLaws.{PeriodsRange}
 use Rattle.terms.specs.declared.Bucket.{Bucket}
 use Rattle.terms.specs.declared.BucketRecord.{BucketRecord}
 use Rattle.terms.specs.declared.Tariff.{Tariff}
 use borrow.Author.Needs.{needs}
+use borrow.Rule.Slice.PartAt.{part-count}
 use lib.ListN.{length, take, drop, getD, set, length-drop, drop-of-length-le}
-use lib.Seq.{length-take-le}
 use mathlib.Core.List.{List, []}
 use mathlib.Core.Path.{_≡_, refl, sym, ap, subst, _∙_}
 use native.Mathlib.Nat.{le-trans, min-le-left, min-le-right}
@@ -32,18 +32,18 @@ record Recording (t : Tariff) (ds runs₀ rates₀ depths₀ runs rates depths :
   rates-stored : Stored runRate cut k rates₀ rates
   depths-stored : Stored runDepth cut k depths₀ depths
 
-begin : (t : Tariff) (ds firsts runs rates depths : List ℕ) → TariffRange t → Firsts t ds firsts → Recording t ds runs rates depths runs rates depths 0 0
-begin t ds firsts runs rates depths h f =
+begin : (t : Tariff) (ds firsts runs rates depths : List ℕ) → Firsts t ds firsts → Recording t ds runs rates depths runs rates depths 0 0
+begin t ds firsts runs rates depths f =
     record {
       cut = f .cut;
       found = f .found;
-      few = carried-count t h (subst (IsSeries t ds) (f .found) (series-is t ds) .kind);
+      few = carried-count t (subst (IsSeries t ds) (f .found) (series-is t ds) .kind);
       inside = omega arith;
       so-far = omega arith;
       rest = f .found;
-      runs-stored = stored-none runLength (f .cut) runs runs;
-      rates-stored = stored-none runRate (f .cut) rates rates;
-      depths-stored = stored-none runDepth (f .cut) depths depths;
+      runs-stored = stored-none runLength (f .cut) runs;
+      rates-stored = stored-none runRate (f .cut) rates;
+      depths-stored = stored-none runDepth (f .cut) depths;
     }
 
 module _ (t : Tariff) (ds runs₀ rates₀ depths₀ runs rates depths : List ℕ) (start k : ℕ) (r : Recording t ds runs₀ rates₀ depths₀ runs rates depths start k) where
@@ -78,9 +78,7 @@ module _ (t : Tariff) (ds runs₀ rates₀ depths₀ runs rates depths : List �
         ap (λ (n : ℕ). take n (drop start ds)) e
 
     part-length : length part ≡ getD firsts start 0
-    part-length =
-        let e : start + getD firsts start 0 - start ≡ getD firsts start 0 = omega arith in
-        ap (λ (n : ℕ). length (take n (drop start ds))) e ∙ length-take-le (getD firsts start 0) (drop start ds) (omega (arith, ends, length-drop start ds))
+    part-length = sym (part-count ds start (start + getD firsts start 0) (omega arith, ends)) ∙ omega arith
 
     part-range : PeriodsRange (length ds) → PeriodsRange (length part)
     part-range p = record { some = omega (arith, part-length, begins); few = omega (arith, part-length, ends, p .few) }
@@ -131,7 +129,7 @@ abbrev μ-loop : tie.MeasureT-loop
 loop-holds : tie.Need-loop-holds Inv-loop μ-loop
 loop-holds c =
     let s = c .before .before .before .before .before in
-    begin _ _ _ _ _ _ (s .pre .1 .0) (s .pre .1 .1 .0)
+    begin _ _ _ _ _ _ (s .pre .1 .1 .0)
 
 mul-periods : tie.Need-mul-periods Inv-loop μ-loop
 mul-periods c = search needs

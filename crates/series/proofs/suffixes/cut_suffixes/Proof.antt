@@ -3,13 +3,14 @@ use Prim.Native.Nat.{ℕ, suc, _+_, _-_, _≤_, _<_}
 use native.Mathlib.Omega.{arith}
 use Rattle.series.specs.Outline.{outlineOf}
 use Rattle.series.specs.Series.{cheapestCut}
-use Rattle.series.specs.SuffixLaws.{Kept, Left, part-rest, kept-left, kept-more}
+use Rattle.series.specs.SuffixLaws.{Kept, Left, kept-left, kept-more}
 use Rattle.series.specs.declared.outlines.Outline.{Outline}
 use Rattle.terms.specs.declared.Tariff.{Tariff}
 use borrow.Author.Needs.{needs}
 use lib.ListN.{length, take, drop, set, length-set, length-take}
 use Rattle.terms.specs.Limits.{traceLimit}
 use mathlib.Core.List.{List}
+use borrow.Rule.Slice.PartAt.{part-to-end}
 use mathlib.Core.Path.{_≡_, sym, ap, subst, _∙_}
 use Rattle.series.proofs.suffixes.cut_suffixes.Statement.{statement}
 use Rattle.series.proofs.suffixes.cut_suffixes.Tie as tie
@@ -31,7 +32,7 @@ module _ (t : Tariff) (ds costs₀ counts₀ firsts₀ : List ℕ) (next : ℕ) 
 
   left : Left t (take (length ds - (next - 1)) (drop (next - 1) ds)) (take (length ds + 1 - next) (drop next costs)) (take (length ds + 1 - next) (drop next counts))
   left =
-      subst (λ (es : List ℕ). Left t es (take (length ds + 1 - next) (drop next costs)) (take (length ds + 1 - next) (drop next counts))) (sym (part-rest ds (next - 1)))
+      subst (λ (es : List ℕ). Left t es (take (length ds + 1 - next) (drop next costs)) (take (length ds + 1 - next) (drop next counts))) (sym (part-to-end ds (next - 1)))
       (subst (λ (n : ℕ). Left t (drop (next - 1) ds) (take (length ds + 1 - n) (drop n costs)) (take (length ds + 1 - n) (drop n counts))) one-before
       (kept-left t ds (next - 1) (omega (arith, k .inside)) costs counts firsts kept-next))
 
@@ -45,7 +46,7 @@ module _ (t : Tariff) (ds costs₀ counts₀ firsts₀ : List ℕ) (next : ℕ) 
         firsts-same = length-set firsts (next - 1) (o .first) ∙ k .firsts-same;
         kept =
             kept-more t ds (next - 1) (omega (arith, k .inside)) costs counts firsts kept-next o
-            (e ∙ ap (λ (es : List ℕ). outlineOf t (cheapestCut t es)) (part-rest ds (next - 1)));
+            (e ∙ ap (λ (es : List ℕ). outlineOf t (cheapestCut t es)) (part-to-end ds (next - 1)));
       }
 
 few-left : (ds : List ℕ) (a : ℕ) → length ds ≤ traceLimit → length (take (length ds - a) (drop a ds)) ≤ traceLimit
