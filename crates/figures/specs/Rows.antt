@@ -14,11 +14,6 @@ pub record Row : Type 0 where
   pub given : Answer (List ℤ)
   pub paper : Answer (List ℤ)
 
--- The figures of an answer, as a row has them.
-abbrev pub rowOf : {A : Type 0} → (A → List ℤ) → Answer A → Answer (List ℤ)
-rowOf f (figures x) = figures (f x)
-rowOf f (refused n) = refused n
-
 sameNumber : ℤ → ℤ → Bool
 sameNumber (pos a) (pos b) = eqb a b
 sameNumber (pos a) (negsuc b) = false

@@ -8,7 +8,7 @@ use lib.IntN.{ℤ, pos, negsuc}
 use lib.ListN.{length}
 use Rattle.terms.specs.declared.Factor.{Factor}
 use Rattle.terms.specs.declared.Tariff.{Tariff}
-use Rattle.terms.specs.Answer.{Answer, figures, refused}
+use Rattle.terms.specs.Answer.{Answer, figures, refused, onFigures}
 use Rattle.bucket.specs.declared.trials.TrialFigures.{TrialFigures}
 use Rattle.bucket.specs.declared.meters.Meter.{Meter}
 use Rattle.bucket.specs.Step.{startOf}
@@ -22,7 +22,7 @@ use Rattle.single.specs.Preference.{smaller, preferred}
 use Rattle.single.specs.Single.{bucketOf, atRate, bestOf, singleOf}
 use Rattle.series.specs.Cutting.{total, longer, wins, bestFirst, bests}
 use Rattle.series.specs.Series.{Cutting, trueCost, seriesOf}
-use Rattle.figures.specs.Rows.{Row, rowOf, allRight, Hold, all-hold}
+use Rattle.figures.specs.Rows.{Row, allRight, Hold, all-hold}
 
 -- the factor of the printed case
 half : Factor
@@ -82,7 +82,7 @@ seriesRow t xs = pos (length xs) ∷ pos (trueCost t xs) ∷ bucketRows xs
 
 -- the series with as much room as periods
 seriesAt : Tariff → List ℕ → Answer (List ℤ)
-seriesAt t ds = rowOf (seriesRow t) (seriesOf t (length ds) ds)
+seriesAt t ds = onFigures (seriesRow t) (seriesOf t (length ds) ds)
 
 trialRow : TrialFigures → List ℤ
 trialRow t = t .spare ∷ pos (t .over) ∷ []
@@ -94,20 +94,20 @@ meterRow ds m = let n = afterOffers m ds in pos (n .sent) ∷ pos (n .over) ∷ 
 pub table : List Row
 table =
     -- A: 4,8,2 at rates 4, 5, 6: depths 8, 4, 2
-    record { given = rowOf depthRow (depthOf printed 4 case); paper = figures (pos 8 ∷ []) }
-    ∷ record { given = rowOf depthRow (depthOf printed 5 case); paper = figures (pos 4 ∷ []) }
-    ∷ record { given = rowOf depthRow (depthOf printed 6 case); paper = figures (pos 2 ∷ []) }
+    record { given = onFigures depthRow (depthOf printed 4 case); paper = figures (pos 8 ∷ []) }
+    ∷ record { given = onFigures depthRow (depthOf printed 5 case); paper = figures (pos 4 ∷ []) }
+    ∷ record { given = onFigures depthRow (depthOf printed 6 case); paper = figures (pos 2 ∷ []) }
     -- B: 4,8,2 at rate 5: depth cap 4 gives 4, cap 3 gives refusal 7
-    ∷ record { given = rowOf depthRow (depthOf (capped 4) 5 case); paper = figures (pos 4 ∷ []) }
-    ∷ record { given = rowOf depthRow (depthOf (capped 3) 5 case); paper = refused 7 }
+    ∷ record { given = onFigures depthRow (depthOf (capped 4) 5 case); paper = figures (pos 4 ∷ []) }
+    ∷ record { given = onFigures depthRow (depthOf (capped 3) 5 case); paper = refused 7 }
     -- C: single for 4,8,2: (5, 4), cost 46; rate 6 with depth 2 costs the same
-    ∷ record { given = rowOf singleRow (singleOf printed case); paper = figures (pos 5 ∷ pos 4 ∷ pos 46 ∷ []) }
-    ∷ record { given = rowOf singleRow (atRate printed case 6); paper = figures (pos 6 ∷ pos 2 ∷ pos 46 ∷ []) }
+    ∷ record { given = onFigures singleRow (singleOf printed case); paper = figures (pos 5 ∷ pos 4 ∷ pos 46 ∷ []) }
+    ∷ record { given = onFigures singleRow (atRate printed case 6); paper = figures (pos 6 ∷ pos 2 ∷ pos 46 ∷ []) }
     -- D: trace 3: (3, 0), cost 21; rates 0, 1, 2 cost 25, 22, 24
-    ∷ record { given = rowOf singleRow (singleOf uneven (3 ∷ [])); paper = figures (pos 3 ∷ pos 0 ∷ pos 21 ∷ []) }
-    ∷ record { given = rowOf costRow (atRate uneven (3 ∷ []) 0); paper = figures (pos 25 ∷ []) }
-    ∷ record { given = rowOf costRow (atRate uneven (3 ∷ []) 1); paper = figures (pos 22 ∷ []) }
-    ∷ record { given = rowOf costRow (atRate uneven (3 ∷ []) 2); paper = figures (pos 24 ∷ []) }
+    ∷ record { given = onFigures singleRow (singleOf uneven (3 ∷ [])); paper = figures (pos 3 ∷ pos 0 ∷ pos 21 ∷ []) }
+    ∷ record { given = onFigures costRow (atRate uneven (3 ∷ []) 0); paper = figures (pos 25 ∷ []) }
+    ∷ record { given = onFigures costRow (atRate uneven (3 ∷ []) 1); paper = figures (pos 22 ∷ []) }
+    ∷ record { given = onFigures costRow (atRate uneven (3 ∷ []) 2); paper = figures (pos 24 ∷ []) }
     -- E: series for 4,8,2 with F = 10: one bucket (5, 4), cost 52
     ∷ record { given = seriesAt (withFee 10) case; paper = figures (pos 1 ∷ pos 52 ∷ pos 3 ∷ pos 5 ∷ pos 4 ∷ []) }
     -- F: the same, fee 3: three buckets (0, 8), (0, 16), (0, 4), cost 37
@@ -120,17 +120,17 @@ table =
     -- H: as G, trace 8,2: refusal 7
     ∷ record { given = seriesAt empty (8 ∷ 2 ∷ []); paper = refused 7 }
     -- I: trace 0: (0, 0), cost 4
-    ∷ record { given = rowOf singleRow (singleOf printed (0 ∷ [])); paper = figures (pos 0 ∷ pos 0 ∷ pos 4 ∷ []) }
+    ∷ record { given = onFigures singleRow (singleOf printed (0 ∷ [])); paper = figures (pos 0 ∷ pos 0 ∷ pos 4 ∷ []) }
     -- the printed case: two buckets (5, 4) and (0, 4), cost 40
     ∷ record { given = seriesAt printed case; paper = figures (pos 2 ∷ pos 40 ∷ pos 2 ∷ pos 5 ∷ pos 4 ∷ pos 1 ∷ pos 0 ∷ pos 4 ∷ []) }
     -- J: meter rate 5, depth 4, offers 4,8,2,9: sent 22, over 1, lost 0, tokens 0
     ∷ record {
-      given = rowOf (meterRow (4 ∷ 8 ∷ 2 ∷ 9 ∷ [])) (openOf (bucketOf 5 4) half);
+      given = onFigures (meterRow (4 ∷ 8 ∷ 2 ∷ 9 ∷ [])) (openOf (bucketOf 5 4) half);
       paper = figures (pos 22 ∷ pos 1 ∷ pos 0 ∷ pos 0 ∷ []);
     }
     -- K: trial of (5, 3) on 4,8,2: spare −1, over 1
     ∷ record {
-      given = rowOf trialRow (trialOf (bucketOf 5 3) half case);
+      given = onFigures trialRow (trialOf (bucketOf 5 3) half case);
       paper = figures (negsuc 0 ∷ pos 1 ∷ []);
     }
     ∷ []

@@ -9,7 +9,7 @@ use lib.Dec.{leb}
 use lib.ListN.{length, drop}
 use Rattle.terms.specs.declared.BucketRecord.{BucketRecord}
 use Rattle.terms.specs.declared.Tariff.{Tariff}
-use Rattle.terms.specs.Answer.{Answer, figures, refused, weigh}
+use Rattle.terms.specs.Answer.{Answer, figures, refused, weigh, onFigures}
 use Rattle.terms.specs.Refusals.{numberOf}
 use Rattle.terms.specs.Ranges.{periodsOk, tariffOk}
 use Rattle.single.specs.declared.costs.Priced.{Priced}
@@ -55,8 +55,7 @@ preferred t = wins runLength (runCost t)
 
 -- The record of a run of n periods with the bucket found for it.
 abbrev pub recordOf : ℕ → Answer Priced → Answer BucketRecord
-recordOf n (figures x) = figures (record { periods = n; bucket = x .bucket })
-recordOf n (refused m) = refused m
+recordOf n = onFigures (λ x. record { periods = n; bucket = x .bucket })
 
 -- Each bucket is the single answer for its run.
 abbrev pub runRecord : Tariff → List ℕ → Answer BucketRecord
@@ -72,8 +71,7 @@ seriesOf t room ds = weigh (periodsOk (length ds)) 3 (weigh (tariffOk t) 5 (weig
 
 -- The figures that are answered: the number of buckets and the cost.
 abbrev pub planOf : Tariff → Answer Cutting → Answer Plan
-planOf t (figures xs) = figures (record { buckets = length xs; cost = trueCost t xs })
-planOf t (refused n) = refused n
+planOf t = onFigures (λ xs. record { buckets = length xs; cost = trueCost t xs })
 
 -- What a lent list of one figure of each record holds afterwards: the records fill its front in order, and what lies after
 -- them, and everything on a refusal, is as it was.

@@ -8,7 +8,7 @@ use mathlib.Core.List.{List}
 use lib.ListN.{length}
 use Rattle.terms.specs.declared.Bucket.{Bucket}
 use Rattle.terms.specs.declared.Tariff.{Tariff}
-use Rattle.terms.specs.Answer.{Answer, figures, refused, weigh, choose}
+use Rattle.terms.specs.Answer.{Answer, figures, refused, weigh, onFigures, choose}
 use Rattle.terms.specs.Refusals.{numberOf}
 use Rattle.terms.specs.Ranges.{periodsOk, tariffOk}
 use Rattle.bucket.specs.Trace.{carries}
@@ -31,8 +31,7 @@ pub record Serves (t : Tariff) (ds : List ℕ) (b : Bucket) : Type 0 where
 
 -- The bucket with rate r and the depth found for it, priced over n periods; a rate with no depth has none.
 abbrev pub atDepth : Tariff → ℕ → ℕ → Answer ℕ → Answer Priced
-atDepth t n r (figures B) = figures (pricedAt t n (bucketOf r B))
-atDepth t n r (refused m) = refused m
+atDepth t n r = onFigures (λ B. pricedAt t n (bucketOf r B))
 
 -- The bucket that a rate is weighed by: its smallest depth inside the cap.
 abbrev pub atRate : Tariff → List ℕ → ℕ → Answer Priced

@@ -13,6 +13,11 @@ abbrev pub weigh : {A : Type 0} → Bool → ℕ → Answer A → Answer A
 weigh true n rest = rest
 weigh false n rest = refused n
 
+-- Other figures worked out from those of an answer; a refusal stays.
+abbrev pub onFigures : {A B : Type 0} → (A → B) → Answer A → Answer B
+onFigures f (figures x) = figures (f x)
+onFigures f (refused n) = refused n
+
 -- What was found so far, or the new one where that is preferred; a refusal is passed over.
 abbrev pub choose : {A : Type 0} → (A → A → Bool) → Answer A → Answer A → Answer A
 choose preferred a (refused n) = a
