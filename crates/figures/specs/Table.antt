@@ -20,8 +20,10 @@ use Rattle.single.specs.declared.costs.Priced.{Priced}
 use Rattle.single.specs.Cost.{costOf}
 use Rattle.single.specs.Preference.{smaller, preferred}
 use Rattle.single.specs.Single.{bucketOf, atRate, bestOf, singleOf}
-use Rattle.series.specs.Cutting.{total, longer, wins, bestFirst, bests}
-use Rattle.series.specs.Series.{Cutting, trueCost, seriesOf}
+use Rattle.series.specs.Cutting.{longer, wins, bestFirst, bests}
+use Rattle.terms.specs.Records.{total}
+use Rattle.series.specs.Series.{trueCost, seriesOf}
+use Rattle.terms.specs.Records.{Cutting}
 use Rattle.figures.specs.Rows.{Row, allRight, Hold, all-hold}
 
 -- the factor of the printed case

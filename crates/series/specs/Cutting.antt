@@ -1,10 +1,11 @@
 -- Periods cut into runs with something chosen for each run, whatever that is (01, "Series"). All that is known of a choice x
 -- is the length of its run, `periods x`, and its price, `price x`.
 -- Assumes nothing.
-use Prim.Native.Nat.{ℕ, zero, suc, _+_, _≤_}
+use Prim.Native.Nat.{ℕ, zero, suc, _≤_}
 use mathlib.Core.Bool.{Bool, true, false}
 use mathlib.Core.List.{List, [], _∷_}
 use lib.ListN.{length, take, drop, getD}
+use Rattle.terms.specs.Records.{total}
 use Rattle.terms.specs.Answer.{Answer, figures, refused, choose}
 use Rattle.single.specs.Preference.{smaller}
 
@@ -18,11 +19,6 @@ pub record FirstRun {X : Type 0} (periods : X → ℕ) (Fits : List ℕ → X �
 pub data Cuts {X : Type 0} (periods : X → ℕ) (Fits : List ℕ → X → Type 0) : List ℕ → List X → Type 0 where
   none : Cuts periods Fits [] []
   run : {ds : List ℕ} {x : X} {xs : List X} → FirstRun periods Fits ds x → Cuts periods Fits (drop (periods x) ds) xs → Cuts periods Fits ds (x ∷ xs)
-
--- What all runs cost.
-unfoldable pub total : {X : Type 0} → (X → ℕ) → List X → ℕ
-total price [] = 0
-total price (x ∷ xs) = price x + total price xs
 
 -- The longer first run, then the longer second run, and so on.
 unfoldable pub longer : {X : Type 0} → (X → ℕ) → List X → List X → Bool

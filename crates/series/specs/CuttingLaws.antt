@@ -17,7 +17,8 @@ use Rattle.terms.specs.Answer.{Answer, figures, refused}
 use Rattle.terms.specs.ChooseLaws.{Order, IsBest, best-same, best-choose}
 use Rattle.single.specs.Preference.{smaller}
 use Rattle.single.specs.PreferenceLaws.{not-smaller, smaller-not, smaller-trans, smaller-asym}
-use Rattle.series.specs.Cutting.{FirstRun, Cuts, none, run, total, longer, wins, firstRun, joined, bestFirst, bests}
+use Rattle.series.specs.Cutting.{FirstRun, Cuts, none, run, longer, wins, firstRun, joined, bestFirst, bests}
+use Rattle.terms.specs.Records.{total}
 
 -- ---- The order of cuttings
 

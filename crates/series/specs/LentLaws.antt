@@ -1,20 +1,15 @@
--- The lent lists: when they have room, and that a refusal leaves them as they were.
+-- A refusal leaves the lent lists as they were.
 -- Assumes nothing.
-use Prim.Native.Nat.{ℕ, min}
-use mathlib.Core.Path.{_≡_, sym, ap, _∙_}
-use mathlib.Core.Bool.{Bool, _&&_}
+use Prim.Native.Nat.{ℕ}
+use mathlib.Core.Path.{_≡_, sym, ap}
 use mathlib.Core.List.{List}
-use lib.Dec.{leb}
 use Rattle.terms.specs.declared.BucketRecord.{BucketRecord}
 use Rattle.terms.specs.declared.Tariff.{Tariff}
 use Rattle.terms.specs.Answer.{Answer, refused}
-use Rattle.terms.specs.Bools.{leb-min}
 use Rattle.series.specs.declared.plans.Plan.{Plan}
-use Rattle.series.specs.Series.{Cutting, runLength, runRate, runDepth, planOf, recorded}
-
--- The room of three lists is enough exactly when each has it.
-pub room-each : (n a b c : ℕ) → leb n a && leb n b && leb n c ≡ leb n (min (min a b) c)
-room-each n a b c = ap (λ (x : Bool). x && leb n c) (leb-min n a b) ∙ leb-min n (min a b) c
+use Rattle.series.specs.Series.{planOf}
+use Rattle.terms.specs.Lent.{recorded}
+use Rattle.terms.specs.Records.{Cutting, runLength, runRate, runDepth}
 
 module _ (t : Tariff) (runs rates depths : List ℕ) where
   -- What is answered, and what the lists hold that held runs, rates and depths.

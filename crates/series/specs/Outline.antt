@@ -12,7 +12,8 @@ use Rattle.terms.specs.Answer.{Answer, figures, refused}
 use Rattle.single.specs.declared.costs.Priced.{Priced}
 use Rattle.series.specs.declared.outlines.Outline.{Outline}
 use Rattle.series.specs.Cutting.{firstRun}
-use Rattle.series.specs.Series.{Cutting, runLength, trueCost}
+use Rattle.series.specs.Series.{trueCost}
+use Rattle.terms.specs.Records.{Cutting, runLength}
 
 -- Stands for the cost where there is none. Every cost is below it (`OutlineLaws.carried-below`).
 abbrev pub unpriced : ℕ

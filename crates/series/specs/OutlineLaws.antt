@@ -23,9 +23,11 @@ use Rattle.single.specs.Preference.{smaller}
 use Rattle.single.specs.Single.{cheapestOf}
 use Rattle.single.specs.SingleLaws.{IsSingle, cheapest-is}
 use Rattle.series.specs.declared.outlines.Outline.{Outline}
-use Rattle.series.specs.Cutting.{FirstRun, none, run, total, longer, wins, firstRun, joined, bestFirst}
+use Rattle.series.specs.Cutting.{FirstRun, none, run, longer, wins, firstRun, joined, bestFirst}
+use Rattle.terms.specs.Records.{total}
 use Rattle.series.specs.CuttingLaws.{Within, IsBestCut, Rests, first-is}
-use Rattle.series.specs.Series.{Cutting, runLength, runCost, trueCost, ServesRun, Carried, preferred, recordOf, runRecord}
+use Rattle.series.specs.Series.{runCost, trueCost, ServesRun, Carried, preferred, recordOf, runRecord}
+use Rattle.terms.specs.Records.{Cutting, runLength}
 use Rattle.series.specs.SeriesLaws.{IsSeries, run-chosen}
 use Rattle.series.specs.Outline.{unpriced, priceOf, outlineOf, betterOutline, orBetter, firstOutline}
 

@@ -1,14 +1,13 @@
 -- How the records are stored one by one: the first run is the one kept for its start, its bucket is the single answer on its
 -- own part of the trace, and what follows is the best cutting from its end on.
 -- Assumes nothing.
-use Prim.Native.Nat.{ℕ, suc, _+_, _-_, _≤_, _<_}
+use Prim.Native.Nat.{ℕ, suc, _+_, _≤_, _<_}
 use native.Mathlib.Omega.{arith}
-use native.Mathlib.Nat.{le-of-eq}
 use native.Mathlib.Numerals.{add-one}
 use mathlib.Core.Path.{_≡_, refl, sym, ap, _∙_}
 use mathlib.Core.List.{List, [], _∷_, _++_, map}
 use lib.ListN.{length, take, drop, getD, set, length-drop, length-set, length-map, List·getD-map}
-use lib.Seq.{take-suc, drop-cons, append-snoc, set-at, length-take-le, drop-drop, take-all}
+use lib.Seq.{take-suc, drop-cons, append-snoc, set-at, length-take-le, drop-drop, take-length}
 use Rattle.terms.specs.declared.BucketRecord.{BucketRecord}
 use Rattle.terms.specs.declared.Tariff.{Tariff}
 use Rattle.terms.specs.Answer.{Answer, figures, refused}
@@ -16,7 +15,9 @@ use Rattle.terms.specs.Limits.{traceLimit}
 use Rattle.terms.specs.RangeLaws.{PeriodsRange, TariffRange, periods-ok, tariff-ok}
 use Rattle.single.specs.Single.{bucketOf, singleOf}
 use Rattle.series.specs.RunLaws.{best-runs, best-of-none}
-use Rattle.series.specs.Series.{Cutting, runLength, runCost, recordOf, runRecord, cheapestCut, planOf, recorded}
+use Rattle.series.specs.Series.{runCost, recordOf, runRecord, cheapestCut, planOf}
+use Rattle.terms.specs.Lent.{recorded}
+use Rattle.terms.specs.Records.{Cutting, runLength}
 use Rattle.series.specs.SeriesLaws.{record-whole, series-is}
 use Rattle.series.specs.Outline.{unpriced, outlineOf}
 use Rattle.series.specs.SuffixLaws.{Kept, outlineFrom, outline-none, outline-found, outline-plan}
@@ -112,8 +113,8 @@ module _ (figure : BucketRecord → ℕ) (cut : Cutting) (old new : List ℕ) wh
   pub stored-all : (k : ℕ) → k ≡ length cut → Stored figure cut k old new → new ≡ recorded figure (figures cut) old
   stored-all k e s =
       s .is
-      ∙ ap (λ (n : ℕ). front n (map figure cut) old) e
-      ∙ ap (λ (ys : List ℕ). ys ++ drop (length cut) old) (take-all (length cut) (map figure cut) (le-of-eq (length-map cut figure)))
+      ∙ ap (λ (n : ℕ). front n (map figure cut) old) (e ∙ sym (length-map cut figure))
+      ∙ ap (λ (ys : List ℕ). ys ++ drop (length (map figure cut)) old) (take-length (map figure cut))
 
 -- ---- The outline from the first period on
 

@@ -12,7 +12,8 @@ use lib.Seq.{length-take-le}
 use Rattle.terms.specs.Answer.{Answer, figures, refused, choose}
 use Rattle.terms.specs.AnswerLaws.{figures-refused, same-figures}
 use Rattle.single.specs.PreferenceLaws.{smaller-same}
-use Rattle.series.specs.Cutting.{FirstRun, Cuts, none, run, total, longer, wins, joined, bestFirst, bests, best}
+use Rattle.series.specs.Cutting.{FirstRun, Cuts, none, run, longer, wins, joined, bestFirst, bests, best}
+use Rattle.terms.specs.Records.{total}
 use Rattle.series.specs.CuttingLaws.{cut-first}
 
 choose-either : {A : Type 0} (preferred : A → A → Bool) (a b : Answer A) {x : A} → choose preferred a b ≡ figures x → (a ≡ figures x) ⊎ (b ≡ figures x)

@@ -2,36 +2,25 @@
 -- The search goes from the end of the trace to its start. That no carried cutting does better, whatever its runs and its
 -- buckets, is a law (`SeriesLaws.series-cheapest`).
 -- Assumes nothing.
-use Prim.Native.Nat.{ℕ, min}
+use Prim.Native.Nat.{ℕ}
 use mathlib.Core.Bool.{Bool}
-use mathlib.Core.List.{List, map, _++_}
+use mathlib.Core.List.{List}
 use lib.Dec.{leb}
-use lib.ListN.{length, drop}
+use lib.ListN.{length}
 use Rattle.terms.specs.declared.BucketRecord.{BucketRecord}
 use Rattle.terms.specs.declared.Tariff.{Tariff}
 use Rattle.terms.specs.Answer.{Answer, figures, refused, weigh, onFigures}
 use Rattle.terms.specs.Refusals.{numberOf}
 use Rattle.terms.specs.Ranges.{periodsOk, tariffOk}
+use Rattle.terms.specs.Records.{Cutting, runLength, total}
+use Rattle.terms.specs.Lent.{roomOf}
 use Rattle.single.specs.declared.costs.Priced.{Priced}
 use Rattle.single.specs.Cost.{costOf}
 use Rattle.single.specs.Single.{Serves, cheapestOf}
 use Rattle.series.specs.declared.plans.Plan.{Plan}
 use Rattle.series.specs.declared.plans.SeriesAnswer.{SeriesAnswer}
 use Rattle.series.specs.declared.plans.SeriesAnswer.the-variants.{Found, Refused}
-use Rattle.series.specs.Cutting.{Cuts, total, wins, best}
-
--- A cutting, document 01's term: for each run, first to last, its length, rate and depth.
-abbrev pub Cutting : Type 0
-Cutting = List BucketRecord
-
-abbrev pub runLength : BucketRecord → ℕ
-runLength x = x .periods
-
-abbrev pub runRate : BucketRecord → ℕ
-runRate x = x .bucket .rate .0
-
-abbrev pub runDepth : BucketRecord → ℕ
-runDepth x = x .bucket .depth .0
+use Rattle.series.specs.Cutting.{Cuts, wins, best}
 
 -- A run is billed for its exact length, with its own fee.
 abbrev pub runCost : Tariff → BucketRecord → ℕ
@@ -73,17 +62,7 @@ seriesOf t room ds = weigh (periodsOk (length ds)) 3 (weigh (tariffOk t) 5 (weig
 abbrev pub planOf : Tariff → Answer Cutting → Answer Plan
 planOf t = onFigures (λ xs. record { buckets = length xs; cost = trueCost t xs })
 
--- What a lent list of one figure of each record holds afterwards: the records fill its front in order, and what lies after
--- them, and everything on a refusal, is as it was.
-abbrev pub recorded : (BucketRecord → ℕ) → Answer Cutting → List ℕ → List ℕ
-recorded figure (figures xs) old = map figure xs ++ drop (length xs) old
-recorded figure (refused n) old = old
-
--- The room of three lent lists: the entries of the shortest.
-abbrev pub roomOf : List ℕ → List ℕ → List ℕ → ℕ
-roomOf xs ys zs = min (min (length xs) (length ys)) (length zs)
-
--- The series answer for those lists.
+-- The series answer for three lent lists.
 abbrev pub seriesFor : Tariff → List ℕ → List ℕ → List ℕ → List ℕ → Answer Cutting
 seriesFor t ds runs rates depths = seriesOf t (roomOf runs rates depths) ds
 

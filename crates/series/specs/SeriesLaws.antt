@@ -21,7 +21,8 @@ use Rattle.single.specs.Single.{cheapestOf}
 use Rattle.single.specs.SingleLaws.{IsSingle, cheapest-is, cheapest-least}
 use Rattle.series.specs.CuttingLaws.{IsBestCut, IsChoice, not-wins-cost, bests-are}
 use Rattle.series.specs.RunLaws.{Choices, best-choices, choices-only}
-use Rattle.series.specs.Series.{Cutting, runLength, runCost, trueCost, ServesRun, Carried, preferred, recordOf, runRecord, cheapestCut, seriesOf}
+use Rattle.series.specs.Series.{runCost, trueCost, ServesRun, Carried, preferred, recordOf, runRecord, cheapestCut, seriesOf}
+use Rattle.terms.specs.Records.{Cutting, runLength}
 
 module _ (t : Tariff) where
   -- ---- A run's record

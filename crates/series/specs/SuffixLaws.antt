@@ -19,10 +19,12 @@ use Rattle.terms.specs.RangeLaws.{TariffRange}
 use Rattle.single.specs.Rates.{candidates}
 use Rattle.single.specs.Single.{cheapestOf}
 use Rattle.series.specs.declared.outlines.Outline.{Outline}
-use Rattle.series.specs.Cutting.{bests, total}
+use Rattle.series.specs.Cutting.{bests}
+use Rattle.terms.specs.Records.{total}
 use Rattle.series.specs.CuttingLaws.{bests-are}
 use Rattle.series.specs.RunLaws.{bests-at}
-use Rattle.series.specs.Series.{Cutting, runLength, runCost, ServesRun, runRecord, cheapestCut, planOf}
+use Rattle.series.specs.Series.{runCost, ServesRun, runRecord, cheapestCut, planOf}
+use Rattle.terms.specs.Records.{Cutting, runLength}
 use Rattle.series.specs.SeriesLaws.{IsSeries, run-chosen, series-is}
 use Rattle.series.specs.Outline.{unpriced, priceOf, outlineOf, firstOutline}
 use Rattle.series.specs.OutlineLaws.{carried-below, outline-cost, outline-count, first-outline}

@@ -11,7 +11,9 @@ ghost use Prim.Native.Nat.{_≤_};
 ghost use mathlib.Core.Path.{_≡_};
 ghost use lib.ListN.{length};
 ghost use Rattle.terms.specs.RangeLaws.{PeriodsRange, TariffRange};
-ghost use Rattle.series.specs.Series.{cheapestCut, planOf, recorded, roomOf, runDepth, runLength, runRate, seriesFor, seriesSays};
+ghost use Rattle.series.specs.Series.{cheapestCut, planOf, seriesFor, seriesSays};
+ghost use Rattle.terms.specs.Lent.{recorded, roomOf};
+ghost use Rattle.terms.specs.Records.{runDepth, runLength, runRate};
 
 // A plan's number of buckets and its cost.
 pub struct Plan {

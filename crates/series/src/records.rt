@@ -11,7 +11,9 @@ ghost use lib.ListN.{length};
 ghost use Rattle.terms.specs.Answer.{figures};
 ghost use Rattle.terms.specs.RangeLaws.{PeriodsRange, TariffRange};
 ghost use Rattle.series.specs.RecordLaws.{Firsts, HasBucket};
-ghost use Rattle.series.specs.Series.{cheapestCut, recorded, roomOf, runDepth, runLength, runRate, runRecord};
+ghost use Rattle.series.specs.Series.{cheapestCut, runRecord};
+ghost use Rattle.terms.specs.Lent.{recorded, roomOf};
+ghost use Rattle.terms.specs.Records.{runDepth, runLength, runRate};
 
 // Stores each run's length and the single bucket of its own part of the trace, first run to last.
 pub fn record_runs(

@@ -1,4 +1,4 @@
--- The limits of document 01, one table ("The bucket", "The tariff and its ranges", "Refusals by number").
+-- The limits of document 01, one table ("The bucket", "The tariff and its ranges", "The two files", "Refusals by number").
 -- Assumes nothing.
 use Prim.Native.Nat.{ℕ}
 
@@ -37,3 +37,7 @@ meterLimit = 1000000
 -- a total of a meter
 abbrev pub totalLimit : ℕ
 totalLimit = 100000000000
+
+-- the cost of a plan
+abbrev pub costLimit : ℕ
+costLimit = 100000000000000

@@ -9,6 +9,7 @@ pub use ranges::bucket_in_range;
 pub use ranges::factor_in_range;
 pub use ranges::fresh_in_range;
 pub use ranges::periods_in_range;
+pub use ranges::record_in_range;
 pub use ranges::tariff_in_range;
 pub use refusal::Refusal;
 pub use refusal::number_of;

@@ -16,3 +16,5 @@ pub const TRACE_LIMIT: usize = 512;
 pub const METER_LIMIT: u32 = 1_000_000;
 
 pub const TOTAL_LIMIT: u64 = 100_000_000_000;
+
+pub const COST_LIMIT: u64 = 100_000_000_000_000;

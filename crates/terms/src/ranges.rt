@@ -1,5 +1,6 @@
-// The ranges of a factor, a bucket and a tariff.
+// The ranges of a factor, a bucket, a bucket record, a tariff and a number of periods.
 use crate::Bucket;
+use crate::BucketRecord;
 use crate::Factor;
 use crate::Tariff;
 use crate::limits::DEPTH_LIMIT;
@@ -9,7 +10,7 @@ use crate::limits::PRICE_LIMIT;
 use crate::limits::RATE_LIMIT;
 use crate::limits::TRACE_LIMIT;
 ghost use mathlib.Core.Path.{_≡_};
-ghost use Rattle.terms.specs.Ranges.{factorOk, bucketOk, freshOk, tariffOk, periodsOk};
+ghost use Rattle.terms.specs.Ranges.{factorOk, bucketOk, freshOk, recordOk, tariffOk, periodsOk};
 
 // Whether q is 1 to 1,000 and p at most q.
 pub fn factor_in_range(f: Factor) -> bool
@@ -30,6 +31,14 @@ pub fn fresh_in_range(b: Bucket, f: Factor) -> bool
     ensures { λ r. ⌜ r ≡ freshOk b f ⌝ }
 {
     bucket_in_range(b) & factor_in_range(f)
+}
+
+// Whether the run has at least one period and the bucket is in its range.
+pub fn record_in_range(x: BucketRecord) -> bool
+    ensures { λ r. ⌜ r ≡ recordOk x ⌝ }
+{
+    let bucket = x.bucket;
+    (1 <= x.periods) & bucket_in_range(bucket)
 }
 
 // Whether each of the seven figures is in its range.

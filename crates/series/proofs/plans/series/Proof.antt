@@ -12,8 +12,11 @@ use Rattle.terms.specs.Answer.{Answer, refused}
 use Rattle.terms.specs.Ranges.{periodsOk, tariffOk}
 use Rattle.terms.specs.RangeLaws.{periods-range, tariff-range}
 use Rattle.terms.specs.Bools.{check-passed, check-failed}
-use Rattle.series.specs.Series.{Cutting, cheapestCut, roomOf, seriesFor, seriesOf}
-use Rattle.series.specs.LentLaws.{Result, refusal, room-each}
+use Rattle.series.specs.Series.{cheapestCut, seriesFor, seriesOf}
+use Rattle.terms.specs.Lent.{roomOf}
+use Rattle.terms.specs.Records.{Cutting}
+use Rattle.series.specs.LentLaws.{Result, refusal}
+use Rattle.terms.specs.LentLaws.{room-each}
 use Rattle.series.proofs.plans.series.Statement.{statement}
 use Rattle.series.proofs.plans.series.Tie as tie
 

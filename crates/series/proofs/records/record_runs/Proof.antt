@@ -3,7 +3,9 @@ use Prim.Native.Nat.{ℕ, _+_, _-_, _≤_, _<_, min}
 use Rattle.series.specs.Cutting.{bests}
 use Rattle.series.specs.OutlineLaws.{carried-count}
 use Rattle.series.specs.RecordLaws.{Firsts, NextRun, Stored, noRecord, next-run, stored-none, stored-next, stored-all}
-use Rattle.series.specs.Series.{Cutting, cheapestCut, recorded, roomOf, runDepth, runLength, runRate, runRecord}
+use Rattle.series.specs.Series.{cheapestCut, runRecord}
+use Rattle.terms.specs.Lent.{recorded, roomOf}
+use Rattle.terms.specs.Records.{Cutting, runDepth, runLength, runRate}
 use Rattle.series.specs.SeriesLaws.{IsSeries, series-is}
 use Rattle.terms.specs.Answer.{Answer, figures}
 use Rattle.terms.specs.AnswerLaws.{same-figures}

@@ -1,0 +1,118 @@
+-- Reading undoes writing and writing undoes reading, for a number of any width and for lists of items of any width.
+-- Assumes nothing.
+use Prim.Native.Nat.{ℕ, zero, suc, _+_, _*_, _/_, _%_, _^_, _≤_, _<_}
+use native.Mathlib.Omega.{arith}
+use native.Mathlib.Nat.{zero-lt-suc, zero-add, div-lt-iff-lt-mul, mod-add-div, add-mul-div-left, add-mul-mod-self-left, div-eq-of-lt, mod-eq-of-lt, pow-suc, one-le-pow, mul-zero, mul-suc, mul-le-mul, le-trans, le-refl}
+use native.Mathlib.Numerals.{add-one}
+use mathlib.Core.Path.{_≡_, refl, sym, ap, subst, _∙_}
+use mathlib.Core.List.{List, [], _∷_, _++_, append-assoc}
+use lib.ListN.{length, take, drop, getD, length-append, length-drop}
+use lib.Seq.{take-nil, drop-nil, length-take-le, take-at, drop-append-seam, take-add, drop-drop, getD-drop}
+use Rattle.files.specs.Number.{bytesOf, valueOf, numberAt, bytesOfAll, itemsAt}
+
+-- Each number of a list has w bytes. (Past the end of a list `getD` gives 0.)
+pub record Fit (w : ℕ) (ns : List ℕ) : Type 0 where
+  pub each : (i : ℕ) → getD ns i 0 < 256 ^ w
+
+abbrev pub Bytes : List ℕ → Type 0
+Bytes = Fit 1
+
+pub fit-head : {w n : ℕ} {ns : List ℕ} → Fit w (n ∷ ns) → n < 256 ^ w
+fit-head h = h .each 0
+
+pub fit-tail : {w n : ℕ} {ns : List ℕ} → Fit w (n ∷ ns) → Fit w ns
+fit-tail h = record { each = λ i. h .each (suc i) }
+
+pub fit-drop : {w : ℕ} (ns : List ℕ) (k : ℕ) → Fit w ns → Fit w (drop k ns)
+fit-drop {w} ns k h = record { each = λ i. subst (λ (n : ℕ). n < 256 ^ w) (sym (getD-drop k ns i 0)) (h .each (k + i)) }
+
+pub length-bytes : (w n : ℕ) → length (bytesOf w n) ≡ w
+unfolding bytesOf
+length-bytes zero n = refl
+length-bytes (suc w) n = ap suc (length-bytes w (n / 256))
+
+-- ---- One number
+
+pub value-bytes : (w n : ℕ) → n < 256 ^ w → valueOf (bytesOf w n) ≡ n
+unfolding bytesOf valueOf
+value-bytes zero n h = omega arith
+value-bytes (suc w) n h =
+    ap (λ (m : ℕ). n % 256 + 256 * m) (value-bytes w (n / 256) (div-lt-iff-lt-mul (zero-lt-suc 255) .1 (subst (λ (x : ℕ). n < x) (pow-suc 256 w) h)))
+    ∙ mod-add-div n 256
+
+pub bytes-value : (w : ℕ) (bs : List ℕ) → Bytes bs → w ≤ length bs → bytesOf w (valueOf (take w bs)) ≡ take w bs
+unfolding bytesOf valueOf
+bytes-value zero bs h l = refl
+bytes-value (suc w) [] h l = absurd (omega arith)
+bytes-value (suc w) (b ∷ bs) h l =
+    let v = valueOf (take w bs) in
+    let b-lt : b < 256 = fit-head h in
+    let low : (b + 256 * v) % 256 ≡ b = add-mul-mod-self-left b 256 v ∙ mod-eq-of-lt b-lt in
+    let high : (b + 256 * v) / 256 ≡ v = add-mul-div-left b v (zero-lt-suc 255) ∙ ap (λ (x : ℕ). x + v) (div-eq-of-lt b-lt) ∙ zero-add v in
+    ap (λ (x : ℕ). x ∷ bytesOf w ((b + 256 * v) / 256)) low
+    ∙ ap (λ (x : ℕ). b ∷ bytesOf w x) high
+    ∙ ap (λ (ys : List ℕ). b ∷ ys) (bytes-value w bs (fit-tail h) (omega arith))
+
+pub value-fits : (w : ℕ) (bs : List ℕ) → Bytes bs → valueOf (take w bs) < 256 ^ w
+unfolding valueOf
+value-fits zero bs h = omega arith
+value-fits (suc w) [] h = one-le-pow (suc w) 256 (zero-lt-suc 255)
+value-fits (suc w) (b ∷ bs) h =
+    let v = valueOf (take w bs) in
+    let b-lt : b < 256 = fit-head h in
+    let rest : (v + 1) * 256 ≤ 256 ^ w * 256 = mul-le-mul (subst (λ (n : ℕ). n ≤ 256 ^ w) (sym (add-one v)) (value-fits w bs (fit-tail h))) (le-refl 256) in
+    let e : 256 ^ suc w ≡ 256 ^ w * 256 = pow-suc 256 w in
+    omega arith
+
+-- A number with others before and behind it.
+pub number-written : (w n : ℕ) (before after : List ℕ) → n < 256 ^ w → numberAt w (before ++ bytesOf w n ++ after) (length before) ≡ n
+number-written w n before after l =
+    ap (λ (ys : List ℕ). valueOf (take w ys)) (ap (drop (length before)) (append-assoc before (bytesOf w n) after) ∙ drop-append-seam before (bytesOf w n ++ after))
+    ∙ ap valueOf (take-at (bytesOf w n) after w (length-bytes w n))
+    ∙ value-bytes w n l
+
+pub number-read : (w : ℕ) (bs : List ℕ) (at : ℕ) → Bytes bs → at + w ≤ length bs → bytesOf w (numberAt w bs at) ≡ take w (drop at bs)
+number-read w bs at h l = bytes-value w (drop at bs) (fit-drop bs at h) (omega (arith, length-drop at bs))
+
+pub number-fits : (w : ℕ) (bs : List ℕ) (at : ℕ) → Bytes bs → numberAt w bs at < 256 ^ w
+number-fits w bs at h = value-fits w (drop at bs) (fit-drop bs at h)
+
+-- ---- Items of one width
+
+module _ {A : Type 0} (bytes : A → List ℕ) (width : ℕ) where
+  module _ (each : (x : A) → length (bytes x) ≡ width) where
+    pub length-all : (xs : List A) → length (bytesOfAll bytes xs) ≡ width * length xs
+    unfolding bytesOfAll
+    length-all [] = omega arith
+    length-all (x ∷ xs) =
+        let e = length-append (bytes x) (bytesOfAll bytes xs) in
+        let f : width * suc (length xs) ≡ width * length xs + width = mul-suc width (length xs) in
+        omega (arith, each x, length-all xs)
+
+    -- Items that are read back one by one are read back all; d stands past the end of a list.
+    module _ (read : List ℕ → ℕ → A) (Ok : A → Type 0) (back : (x : A) → Ok x → (before after : List ℕ) → read (before ++ bytes x ++ after) (length before) ≡ x) (d : A) where
+      pub items-written : (xs : List A) → ((i : ℕ) → i < length xs → Ok (getD xs i d)) → (before after : List ℕ)
+          → itemsAt (read (before ++ bytesOfAll bytes xs ++ after)) width (length xs) (length before) ≡ xs
+      unfolding bytesOfAll itemsAt
+      items-written [] ok before after = refl
+      items-written (x ∷ xs) ok before after =
+          let rest = bytesOfAll bytes xs in
+          let e : before ++ (bytes x ++ rest) ++ after ≡ before ++ bytes x ++ rest ++ after = ap (λ (ys : List ℕ). ys ++ after) (sym (append-assoc before (bytes x) rest)) in
+          let n : length before + width ≡ length (before ++ bytes x) = ap (λ (m : ℕ). length before + m) (sym (each x)) ∙ sym (length-append before (bytes x)) in
+          ap (λ (ys : List ℕ). read ys (length before) ∷ itemsAt (read ys) width (length xs) (length before + width)) e
+          ∙ ap (λ (ys : List ℕ). read ys (length before) ∷ itemsAt (read (before ++ bytes x ++ rest ++ after)) width (length xs) (length before + width)) (append-assoc (before ++ bytes x) rest after)
+          ∙ ap (λ (y : A). y ∷ itemsAt (read (before ++ bytes x ++ rest ++ after)) width (length xs) (length before + width)) (back x (ok 0 (omega arith)) before (rest ++ after))
+          ∙ ap (λ (m : ℕ). x ∷ itemsAt (read (before ++ bytes x ++ rest ++ after)) width (length xs) m) n
+          ∙ ap (λ (ys : List A). x ∷ ys) (items-written xs (λ i l. ok (suc i) (omega arith)) (before ++ bytes x) after)
+
+  -- Items that are written back one by one are written back all.
+  module _ (read : ℕ → A) (bs : List ℕ) (same : (at : ℕ) → at + width ≤ length bs → bytes (read at) ≡ take width (drop at bs)) where
+    pub items-read : (n at : ℕ) → at + width * n ≤ length bs → bytesOfAll bytes (itemsAt read width n at) ≡ take (width * n) (drop at bs)
+    unfolding bytesOfAll itemsAt
+    items-read zero at l = ap (λ (m : ℕ). take m (drop at bs)) (sym (mul-zero width))
+    items-read (suc n) at l =
+        let e : width * suc n ≡ width + width * n = omega (arith, mul-suc width n) in
+        ap (λ (ys : List ℕ). ys ++ bytesOfAll bytes (itemsAt read width n (at + width))) (same at (omega arith))
+        ∙ ap (λ (ys : List ℕ). take width (drop at bs) ++ ys) (items-read n (at + width) (omega arith) ∙ ap (take (width * n)) (sym (drop-drop width at bs)))
+        ∙ sym (take-add width (width * n) (drop at bs))
+        ∙ ap (λ (m : ℕ). take m (drop at bs)) (sym e)

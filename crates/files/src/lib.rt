@@ -1,0 +1,11 @@
+// The two files, order and plan, read and written. A writer fills the front of the lent bytes;
+// a refusal changes nothing that is lent.
+mod fills;
+mod orders;
+mod plans;
+
+pub use fills::FillAnswer;
+pub use orders::Order;
+pub use orders::OrderAnswer;
+pub use plans::PlanAnswer;
+pub use plans::PlanFigures;

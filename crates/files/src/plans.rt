@@ -1,0 +1,14 @@
+// The plan file: T, the cost and the bucket records.
+use terms::Refusal;
+
+// What a plan holds beside its bucket records: T, the number of buckets and the cost.
+pub struct PlanFigures {
+    pub periods: u32,
+    pub buckets: u32,
+    pub cost: u64,
+}
+
+pub enum PlanAnswer {
+    Read(PlanFigures),
+    Refused(Refusal),
+}

@@ -1,0 +1,23 @@
+-- Bucket records: what a plan holds for each run (01, "Series"; "The two files").
+-- Assumes nothing.
+use Prim.Native.Nat.{ℕ, _+_}
+use mathlib.Core.List.{List, [], _∷_}
+use Rattle.terms.specs.declared.BucketRecord.{BucketRecord}
+
+-- A cutting, document 01's term: for each run, first to last, its length, rate and depth.
+abbrev pub Cutting : Type 0
+Cutting = List BucketRecord
+
+abbrev pub runLength : BucketRecord → ℕ
+runLength x = x .periods
+
+abbrev pub runRate : BucketRecord → ℕ
+runRate x = x .bucket .rate .0
+
+abbrev pub runDepth : BucketRecord → ℕ
+runDepth x = x .bucket .depth .0
+
+-- The sum of a figure over a list.
+unfoldable pub total : {X : Type 0} → (X → ℕ) → List X → ℕ
+total figure [] = 0
+total figure (x ∷ xs) = figure x + total figure xs
