@@ -7,7 +7,7 @@ use native.Mathlib.Numerals.{add-one}
 use mathlib.Core.Path.{_≡_, refl, sym, ap, subst, _∙_}
 use mathlib.Core.List.{List, [], _∷_, _++_, append-assoc}
 use lib.ListN.{length, take, drop, getD, length-append, length-drop}
-use lib.Seq.{take-nil, drop-nil, length-take-le, take-at, drop-append-seam, take-add, drop-drop, getD-drop}
+use lib.Seq.{take-nil, drop-nil, length-take-le, take-at, drop-append-seam, take-add, drop-cons, drop-drop, getD-drop}
 use Rattle.files.specs.Number.{bytesOf, valueOf, numberAt, bytesOfAll, itemsAt}
 
 -- Each number of a list has w bytes. (Past the end of a list `getD` gives 0.)
@@ -76,6 +76,13 @@ number-read w bs at h l = bytes-value w (drop at bs) (fit-drop bs at h) (omega (
 
 pub number-fits : (w : ℕ) (bs : List ℕ) (at : ℕ) → Bytes bs → numberAt w bs at < 256 ^ w
 number-fits w bs at h = value-fits w (drop at bs) (fit-drop bs at h)
+
+-- A number by its first byte and the rest.
+pub number-next : (w : ℕ) (bs : List ℕ) (at : ℕ) → at < length bs → numberAt (suc w) bs at ≡ getD bs at 0 + 256 * numberAt w bs (at + 1)
+unfolding valueOf
+number-next w bs at l =
+    ap (λ (ys : List ℕ). valueOf (take (suc w) ys)) (drop-cons bs at 0 l)
+    ∙ ap (λ (n : ℕ). getD bs at 0 + 256 * numberAt w bs n) (sym (add-one at))
 
 -- ---- Items of one width
 
