@@ -4,3 +4,5 @@ pub mod Fill
 pub mod Order
 pub mod Plan
 pub mod NumberLaws
+pub mod StoreLaws
+pub mod OrderLaws

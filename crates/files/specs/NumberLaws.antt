@@ -86,6 +86,11 @@ number-next w bs at l =
 
 -- ---- Items of one width
 
+pub length-items : {A : Type 0} (read : ℕ → A) (width n at : ℕ) → length (itemsAt read width n at) ≡ n
+unfolding itemsAt
+length-items read width zero at = refl
+length-items read width (suc n) at = ap suc (length-items read width n (at + width))
+
 module _ {A : Type 0} (bytes : A → List ℕ) (width : ℕ) where
   module _ (each : (x : A) → length (bytes x) ≡ width) where
     pub length-all : (xs : List A) → length (bytesOfAll bytes xs) ≡ width * length xs

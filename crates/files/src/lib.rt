@@ -4,9 +4,13 @@ mod fills;
 mod numbers;
 mod orders;
 mod plans;
+mod traces;
 
 pub use fills::FillAnswer;
 pub use orders::Order;
 pub use orders::OrderAnswer;
+pub use orders::read_order;
+pub use orders::trace_part;
+pub use traces::spread;
 pub use plans::PlanAnswer;
 pub use plans::PlanFigures;

@@ -1,44 +1,39 @@
 -- The bytes still to be stored, stored from the place reached on, give the whole.
 use Prim.Native.Nat.{ℕ, suc, _+_, _-_, _/_, _%_, _≤_, _<_}
 use native.Mathlib.Omega.{arith}
-use mathlib.Core.Path.{_≡_, refl, sym, ap, _∙_}
+use mathlib.Core.Path.{_≡_, ap, subst}
 use mathlib.Core.List.{List}
 use borrow.Author.Needs.{needs}
-use lib.ListN.{length, set, length-set}
+use lib.ListN.{length, set}
 use lib.Seq.{sets}
 use Rattle.files.specs.Number.{bytesOf}
+use Rattle.files.specs.StoreLaws.{Storing, none-stored, one-stored, all-stored}
 use Rattle.files.proofs.numbers.put_number.Statement.{statement}
 use Rattle.files.proofs.numbers.put_number.Tie as tie
 
-record Writing (old : List ℕ) (at width value : ℕ) (new : List ℕ) (rest k : ℕ) : Type 0 where
-  same : length new ≡ length old
-  is : sets new (at + k) (bytesOf (width - k) rest) ≡ sets old at (bytesOf width value)
+module _ (old : List ℕ) (at width value : ℕ) where
+  abbrev Writing : List ℕ → ℕ → ℕ → Type 0
+  Writing new rest k = Storing old at (bytesOf width value) new (at + k) (bytesOf (width - k) rest)
 
-begin : (old : List ℕ) (at width value : ℕ) → Writing old at width value old value 0
-begin old at width value =
-    let e : at + 0 ≡ at = omega arith in
-    let f : width - 0 ≡ width = omega arith in
-    record { same = refl; is = ap (λ (n : ℕ). sets old n (bytesOf (width - 0) value)) e ∙ ap (λ (n : ℕ). sets old at (bytesOf n value)) f }
+  begin : Writing old value 0
+  begin =
+      let e : at ≡ at + 0 = omega arith in
+      let f : width ≡ width - 0 = omega arith in
+      subst (λ (n : ℕ). Storing old at (bytesOf width value) old n (bytesOf (width - 0) value)) e
+      (subst (λ (n : ℕ). Storing old at (bytesOf width value) old at (bytesOf n value)) f (none-stored old at (bytesOf width value)))
 
-module _ (old : List ℕ) (at width value : ℕ) (new : List ℕ) (rest k : ℕ) (w : Writing old at width value new rest k) where
-  next : k < width → Writing old at width value (set new (at + k) (rest % 256)) (rest / 256) (k + 1)
-  unfolding bytesOf
-  next l =
-      let e : width - k ≡ suc (width - (k + 1)) = omega arith in
-      let f : at + (k + 1) ≡ suc (at + k) = omega arith in
-      record {
-        same = length-set new (at + k) (rest % 256) ∙ w .same;
-        is =
-            ap (λ (n : ℕ). sets (set new (at + k) (rest % 256)) n (bytesOf (width - (k + 1)) (rest / 256))) f
-            ∙ ap (λ (n : ℕ). sets new (at + k) (bytesOf n rest)) (sym e)
-            ∙ w .is;
-      }
+  module _ (new : List ℕ) (rest k : ℕ) (w : Writing new rest k) where
+    next : k < width → Writing (set new (at + k) (rest % 256)) (rest / 256) (k + 1)
+    unfolding bytesOf
+    next l =
+        let e : width - k ≡ suc (width - (k + 1)) = omega arith in
+        let f : at + k + 1 ≡ at + (k + 1) = omega arith in
+        subst (λ (n : ℕ). Storing old at (bytesOf width value) (set new (at + k) (rest % 256)) n (bytesOf (width - (k + 1)) (rest / 256))) f
+        (one-stored w (rest % 256) (bytesOf (width - (k + 1)) (rest / 256)) (ap (λ (n : ℕ). bytesOf n rest) e))
 
-  end : width ≤ k → new ≡ sets old at (bytesOf width value)
-  unfolding bytesOf
-  end l =
-      let e : 0 ≡ width - k = omega arith in
-      ap (λ (n : ℕ). sets new (at + k) (bytesOf n rest)) e ∙ w .is
+    end : width ≤ k → new ≡ sets old at (bytesOf width value)
+    unfolding bytesOf
+    end l = let e : width - k ≡ 0 = omega arith in all-stored w (ap (λ (n : ℕ). bytesOf n rest) e)
 
 abbrev Inv-loop : tie.InvT-loop
 Inv-loop bytes₀ at width value rest₀ k₀ bytes rest k = Writing bytes₀ at width value bytes rest k

@@ -1,0 +1,93 @@
+-- Each refusal is the first rule that its test finds broken; past the tests the figures are those of the bytes.
+use Prim.Native.Nat.{ℕ, _≤_}
+use native.Mathlib.Omega.{arith}
+use mathlib.Core.Path.{_≡_, sym, ap, _∙_}
+use mathlib.Core.Bool.{true}
+use mathlib.Core.List.{List}
+use borrow.Author.Tests.{leb-true, le-leb, lt-leb, eq-eqb, ne-eqb}
+use lib.Dec.{leb, eqb}
+use lib.ListN.{length}
+use Rattle.terms.specs.Bools.{check-passed, check-failed}
+use Rattle.terms.specs.Ranges.{periodsOk, tariffOk}
+use Rattle.terms.specs.RangeLaws.{periods-range}
+use Rattle.files.specs.Number.{numberAt}
+use Rattle.files.specs.Order.{tariffOffset, orderKind, orderPlaced}
+use Rattle.files.specs.OrderLaws.{order-short, order-foreign, order-periods, order-misplaced, order-figure, order-figures, placed-range}
+use borrow.Author.Needs.{needs}
+use Rattle.files.proofs.orders.read_order.Statement.{statement}
+use Rattle.files.proofs.orders.read_order.Tie as tie
+
+-- past the first test, and so on
+long : (c : tie.Else1) → leb tariffOffset (length (c .before .before .args .bytes .now)) ≡ true
+long c = le-leb _ _ (c .if1 .left)
+
+kind : (c : tie.Else2) → eqb (numberAt 4 (c .before .before .before .before .args .bytes .now) 0) orderKind ≡ true
+kind c = eq-eqb _ _ (sym (c .before .word-at .ensures) ∙ c .if2 .left)
+
+counts : (c : tie.Else3) → periodsOk (numberAt 4 (c .before .before .before .before .before .before .before .args .bytes .now) 4) ≡ true
+counts c = ap periodsOk (sym (c .before .before .word-at2 .ensures)) ∙ check-passed (c .before .periods-in-range .ensures) (c .if3 .left)
+
+placed : (c : tie.Else4) → let bs = c .before .before .before .before .before .before .before .before .before .args .bytes .now in orderPlaced (numberAt 4 bs 4) bs ≡ true
+placed c =
+    let d = c .before .before in
+    ap (λ (n : ℕ). orderPlaced n (d .before .before .before .before .before .before .before .args .bytes .now)) (sym (d .before .before .word-at2 .ensures))
+    ∙ check-passed (c .before .placed .ensures) (c .if4 .left)
+
+returns : tie.Need-returns
+returns c = sym (order-short _ (lt-leb _ _ (c .if1 .taken)))
+
+word-at-requires : tie.Need-word-at-requires
+word-at-requires c κs = search needs
+
+returns-2 : tie.Need-returns-2
+returns-2 c = let d = c .before .before in sym (order-foreign _ (long d) (ne-eqb _ _ (λ e. c .if2 .taken (c .before .word-at .ensures ∙ e))))
+
+word-at-requires-2 : tie.Need-word-at-requires-2
+word-at-requires-2 c κs = search needs
+
+cast-periods-in-range : tie.Need-cast-periods-in-range
+cast-periods-in-range c = search needs
+
+periods-in-range-requires : tie.Need-periods-in-range-requires
+periods-in-range-requires c κs = search needs
+
+returns-3 : tie.Need-returns-3
+returns-3 c = let d = c .before .before .before in let w = c .before .before .word-at2 .ensures in sym (order-periods _ (long (d .before .before)) (kind d) (ap periodsOk (sym w) ∙ check-failed (c .before .periods-in-range .ensures) (c .if3 .taken)))
+
+placed-requires : tie.Need-placed-requires
+placed-requires c κs = let d = c .before .before .before in (leb-true _ _ (long (d .before .before)), periods-range _ (check-passed (c .before .periods-in-range .ensures) (c .if3 .left)))
+
+returns-4 : tie.Need-returns-4
+returns-4 c = let d = c .before .before in let e = d .before .before .before in sym (order-misplaced _ (long (e .before .before)) (kind e) (counts d) (ap (λ (n : ℕ). orderPlaced n (d .before .before .before .before .before .before .before .args .bytes .now)) (sym (d .before .before .word-at2 .ensures)) ∙ check-failed (c .before .placed .ensures) (c .if4 .taken)))
+
+tariff-in-requires : tie.Need-tariff-in-requires
+tariff-in-requires c κs = 
+    let bs = c .before .before .before .before .before .before .before .before .before .args .bytes .now in
+    omega (arith, placed-range (numberAt 4 bs 4) bs (placed c) .bytes)
+
+tariff-in-range-requires : tie.Need-tariff-in-range-requires
+tariff-in-range-requires c κs = search needs
+
+returns-5 : tie.Need-returns-5
+returns-5 c = let p = c .before .before .before in let d = p .before .before in let e = d .before .before .before in sym (order-figure _ (long (e .before .before)) (kind e) (counts d) (placed p) (ap tariffOk (sym (c .before .before .tariff-in .ensures)) ∙ check-failed (c .before .tariff-in-range .ensures) (c .if5 .taken)))
+
+returns-6 : tie.Need-returns-6
+returns-6 c = let p = c .before .before .before in let d = p .before .before in let e = d .before .before .before in rw (d .before .before .word-at2 .ensures, c .before .before .tariff-in .ensures) (sym (order-figures _ (long (e .before .before)) (kind e) (counts d) (placed p) (ap tariffOk (sym (c .before .before .tariff-in .ensures)) ∙ check-passed (c .before .tariff-in-range .ensures) (c .if5 .left))))
+
+pub read-order-spec : {M : Type 1} → statement M
+read-order-spec =
+    tie.close
+    (tie.spec
+    returns
+    word-at-requires
+    returns-2
+    word-at-requires-2
+    cast-periods-in-range
+    periods-in-range-requires
+    returns-3
+    placed-requires
+    returns-4
+    tariff-in-requires
+    tariff-in-range-requires
+    returns-5
+    returns-6)

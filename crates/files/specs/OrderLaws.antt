@@ -1,0 +1,110 @@
+-- The laws of the order file: an order that breaks no rule is read, reading undoes writing and writing undoes reading.
+-- Assumes nothing.
+use Prim.Native.Nat.{ℕ, _+_, _*_, _≤_}
+use mathlib.Core.Path.{_≡_, refl, sym, ap}
+use mathlib.Core.Bool.{true, false, _&&_}
+use mathlib.Core.List.{List, []}
+use borrow.Author.Tests.{leb-true, le-leb, eqb-true, eq-eqb}
+use lib.Dec.{leb, eqb}
+use lib.ListN.{length, drop}
+use Rattle.terms.specs.Answer.{Answer, figures, refused}
+use Rattle.terms.specs.AnswerLaws.{same-figures, weigh-figures}
+use Rattle.terms.specs.Bools.{and-both, and-three, both-and}
+use Rattle.terms.specs.Ranges.{periodsOk, tariffOk}
+use Rattle.terms.specs.RangeLaws.{PeriodsRange, TariffRange, periods-range, periods-ok, tariff-range, tariff-ok}
+use Rattle.files.specs.declared.orders.Order.{Order}
+use Rattle.files.specs.Number.{numberAt}
+use Rattle.files.specs.Order.{orderKind, tariffOffset, traceOffset, orderLength, tariffIn, orderPlaced, readOrder, partOf, tracePart}
+
+-- ---- Reading, rule by rule
+
+module _ (T : ℕ) (bs : List ℕ) where
+  -- An order's parts in their places, as equations.
+  pub record Placed : Type 0 where
+    pub tariff-offset : numberAt 4 bs 8 ≡ tariffOffset
+    pub trace-offset : numberAt 4 bs 12 ≡ traceOffset
+    pub file-length : numberAt 4 bs 16 ≡ orderLength T
+    pub bytes : length bs ≡ orderLength T
+
+  pub placed-range : orderPlaced T bs ≡ true → Placed
+  placed-range h =
+      let k = and-three (eqb (numberAt 4 bs 8) tariffOffset && eqb (numberAt 4 bs 12) traceOffset) (eqb (numberAt 4 bs 16) (orderLength T)) (eqb (length bs) (orderLength T)) h in
+      let l = and-both (eqb (numberAt 4 bs 8) tariffOffset) (eqb (numberAt 4 bs 12) traceOffset) (k .0) in
+      record { tariff-offset = eqb-true _ _ (l .0); trace-offset = eqb-true _ _ (l .1); file-length = eqb-true _ _ (k .1); bytes = eqb-true _ _ (k .2) }
+
+  pub placed-ok : Placed → orderPlaced T bs ≡ true
+  placed-ok p =
+      both-and (both-and (both-and (eq-eqb _ _ (p .tariff-offset)) (eq-eqb _ _ (p .trace-offset))) (eq-eqb _ _ (p .file-length))) (eq-eqb _ _ (p .bytes))
+
+module _ (bs : List ℕ) where
+  -- T and the tariff where the bytes have them.
+  abbrev pub orderIn : Order
+  orderIn = record { periods = numberAt 4 bs 4; tariff = tariffIn bs }
+
+  pub order-short : leb tariffOffset (length bs) ≡ false → readOrder bs ≡ refused 1
+  unfolding readOrder
+  order-short h = rw h
+
+  module _ (long : leb tariffOffset (length bs) ≡ true) where
+    pub order-foreign : eqb (numberAt 4 bs 0) orderKind ≡ false → readOrder bs ≡ refused 2
+    unfolding readOrder
+    order-foreign h = rw (long, h)
+
+    module _ (kind : eqb (numberAt 4 bs 0) orderKind ≡ true) where
+      pub order-periods : periodsOk (numberAt 4 bs 4) ≡ false → readOrder bs ≡ refused 3
+      unfolding readOrder
+      order-periods h = rw (long, kind, h)
+
+      module _ (counts : periodsOk (numberAt 4 bs 4) ≡ true) where
+        pub order-misplaced : orderPlaced (numberAt 4 bs 4) bs ≡ false → readOrder bs ≡ refused 4
+        unfolding readOrder
+        order-misplaced h = rw (long, kind, counts, h)
+
+        module _ (placed : orderPlaced (numberAt 4 bs 4) bs ≡ true) where
+          pub order-figure : tariffOk (tariffIn bs) ≡ false → readOrder bs ≡ refused 5
+          unfolding readOrder
+          order-figure h = rw (long, kind, counts, placed, h)
+
+          pub order-figures : tariffOk (tariffIn bs) ≡ true → readOrder bs ≡ figures orderIn
+          unfolding readOrder
+          order-figures h = rw (long, kind, counts, placed, h) refl
+
+-- The rules of the format as document 01 lists them.
+pub record OrderRules (bs : List ℕ) : Type 0 where
+  pub header : tariffOffset ≤ length bs
+  pub kind : numberAt 4 bs 0 ≡ orderKind
+  pub periods : PeriodsRange (numberAt 4 bs 4)
+  pub placed : Placed (numberAt 4 bs 4) bs
+  pub tariff : TariffRange (tariffIn bs)
+
+-- Every order that breaks no rule of its format is read.
+pub rules-read : (bs : List ℕ) → OrderRules bs → readOrder bs ≡ figures (orderIn bs)
+rules-read bs r =
+    order-figures bs (le-leb _ _ (r .header)) (eq-eqb _ _ (r .kind)) (periods-ok _ (r .periods)) (placed-ok (numberAt 4 bs 4) bs (r .placed)) (tariff-ok _ (r .tariff))
+
+-- And no other.
+pub read-rules : (bs : List ℕ) (o : Order) → readOrder bs ≡ figures o → OrderRules bs × (o ≡ orderIn bs)
+unfolding readOrder
+read-rules bs o e =
+    let T = numberAt 4 bs 4 in
+    let a = weigh-figures (leb tariffOffset (length bs)) 1 _ e in
+    let b = weigh-figures (eqb (numberAt 4 bs 0) orderKind) 2 _ (a .1) in
+    let c = weigh-figures (periodsOk T) 3 _ (b .1) in
+    let d = weigh-figures (orderPlaced T bs) 4 _ (c .1) in
+    let f = weigh-figures (tariffOk (tariffIn bs)) 5 _ (d .1) in (
+      record {
+        header = leb-true _ _ (a .0);
+        kind = eqb-true _ _ (b .0);
+        periods = periods-range T (c .0);
+        placed = placed-range T bs (d .0);
+        tariff = tariff-range (tariffIn bs) (f .0);
+      },
+      sym (same-figures (f .1)),
+    )
+
+-- The part that holds the trace: what follows the tariff where the order is read.
+pub part-read : (bs : List ℕ) (o : Order) → readOrder bs ≡ figures o → tracePart bs ≡ drop traceOffset bs
+part-read bs o e = ap (λ (a : Answer Order). partOf a (drop traceOffset bs)) e
+
+pub part-refused : (bs : List ℕ) (n : ℕ) → readOrder bs ≡ refused n → tracePart bs ≡ []
+part-refused bs n e = ap (λ (a : Answer Order). partOf a (drop traceOffset bs)) e
