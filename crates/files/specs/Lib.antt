@@ -5,4 +5,5 @@ pub mod Order
 pub mod Plan
 pub mod NumberLaws
 pub mod StoreLaws
+pub mod FillLaws
 pub mod OrderLaws

@@ -1,6 +1,6 @@
 -- The laws of the order file: an order that breaks no rule is read, reading undoes writing and writing undoes reading.
 -- Assumes nothing.
-use Prim.Native.Nat.{ℕ, _+_, _*_, _≤_}
+use Prim.Native.Nat.{ℕ, _+_, _*_, _/_, _≤_}
 use mathlib.Core.Path.{_≡_, refl, sym, ap}
 use mathlib.Core.Bool.{true, false, _&&_}
 use mathlib.Core.List.{List, []}
@@ -14,7 +14,8 @@ use Rattle.terms.specs.Ranges.{periodsOk, tariffOk}
 use Rattle.terms.specs.RangeLaws.{PeriodsRange, TariffRange, periods-range, periods-ok, tariff-range, tariff-ok}
 use Rattle.files.specs.declared.orders.Order.{Order}
 use Rattle.files.specs.Number.{numberAt}
-use Rattle.files.specs.Order.{orderKind, tariffOffset, traceOffset, orderLength, tariffIn, orderPlaced, readOrder, partOf, tracePart}
+use Rattle.files.specs.NumberLaws.{length-items}
+use Rattle.files.specs.Order.{orderKind, tariffOffset, traceOffset, orderLength, tariffIn, orderPlaced, readOrder, partOf, tracePart, partOk, demandsIn, spreadOf}
 
 -- ---- Reading, rule by rule
 
@@ -108,3 +109,22 @@ part-read bs o e = ap (λ (a : Answer Order). partOf a (drop traceOffset bs)) e
 
 pub part-refused : (bs : List ℕ) (n : ℕ) → readOrder bs ≡ refused n → tracePart bs ≡ []
 part-refused bs n e = ap (λ (a : Answer Order). partOf a (drop traceOffset bs)) e
+
+-- ---- Spreading, rule by rule
+
+module _ (room : ℕ) (part : List ℕ) where
+  pub spread-odd : partOk (length part) ≡ false → spreadOf room part ≡ refused 3
+  unfolding spreadOf
+  spread-odd h = rw h
+
+  module _ (ok : partOk (length part) ≡ true) where
+    pub spread-full : leb (length part / 2) room ≡ false → spreadOf room part ≡ refused 6
+    unfolding spreadOf
+    spread-full h = rw (ok, h)
+
+    pub spread-figures : leb (length part / 2) room ≡ true → spreadOf room part ≡ figures (demandsIn part)
+    unfolding spreadOf
+    spread-figures h = rw (ok, h) refl
+
+pub length-demands : (part : List ℕ) → length (demandsIn part) ≡ length part / 2
+length-demands part = length-items (numberAt 2 part) 2 (length part / 2) 0

@@ -7,7 +7,7 @@ use borrow.Author.Needs.{needs}
 use lib.ListN.{length, set}
 use lib.Seq.{sets}
 use Rattle.files.specs.Number.{itemsAt, numberAt}
-use Rattle.files.specs.NumberLaws.{length-items}
+use Rattle.files.specs.OrderLaws.{length-demands}
 use Rattle.files.specs.Order.{demandsIn}
 use Rattle.files.specs.StoreLaws.{Storing, none-stored, one-stored, all-stored, items-next, items-none}
 use Rattle.files.proofs.traces.load_demands.Statement.{statement}
@@ -30,7 +30,7 @@ module _ (part old new : List ℕ) (at i : ℕ) (l : Loading part old new at i) 
   inside h = omega (arith, l .place)
 
   room : i < length part / 2 → length (demandsIn part) ≤ length old → i < length new
-  room h m = omega (arith, length-items (numberAt 2 part) 2 (length part / 2) 0, l .stored .same)
+  room h m = omega (arith, length-demands part, l .stored .same)
 
   next : i < length part / 2 → (d : ℕ) → d ≡ numberAt 2 part at → Loading part old (set new i d) (at + 2) (i + 1)
   next h d e =
