@@ -2,12 +2,12 @@
 -- Assumes nothing.
 use Prim.Native.Nat.{ℕ, zero, suc, _+_, _*_, _/_, _%_, _^_, _≤_, _<_}
 use native.Mathlib.Omega.{arith}
-use native.Mathlib.Nat.{zero-lt-suc, zero-add, div-lt-iff-lt-mul, mod-add-div, add-mul-div-left, add-mul-mod-self-left, div-eq-of-lt, mod-eq-of-lt, pow-suc, one-le-pow, mul-zero, mul-suc, mul-le-mul, le-trans, le-refl}
+use native.Mathlib.Nat.{zero-lt-suc, zero-add, div-lt-iff-lt-mul, mod-add-div, add-mul-div-left, add-mul-mod-self-left, div-eq-of-lt, mod-eq-of-lt, pow-suc, one-le-pow, mul-zero, mul-suc, mul-le-mul, le-refl}
 use native.Mathlib.Numerals.{add-one}
 use mathlib.Core.Path.{_≡_, refl, sym, ap, subst, _∙_}
 use mathlib.Core.List.{List, [], _∷_, _++_, append-assoc}
 use lib.ListN.{length, take, drop, getD, length-append, length-drop}
-use lib.Seq.{take-nil, drop-nil, length-take-le, take-at, drop-append-seam, take-add, drop-cons, drop-drop, getD-drop}
+use lib.Seq.{take-at, drop-append-seam, take-add, drop-cons, drop-drop, getD-drop}
 use Rattle.files.specs.Number.{bytesOf, valueOf, numberAt, bytesOfAll, itemsAt}
 
 -- Each number of a list has w bytes. (Past the end of a list `getD` gives 0.)

@@ -1,13 +1,15 @@
 -- Storing a list entry by entry: what is left to be stored, stored from the place reached on, gives the whole.
 -- Assumes nothing.
-use Prim.Native.Nat.{ℕ, suc, _+_, _-_, _≤_, _<_}
+use Prim.Native.Nat.{ℕ, suc, _+_, _-_, _*_, _≤_, _<_}
 use native.Mathlib.Omega.{arith}
+use native.Mathlib.Nat.{mul-zero, mul-suc, mul-le-mul, le-refl}
 use native.Mathlib.Numerals.{add-one}
-use mathlib.Core.Path.{_≡_, refl, sym, ap, subst, _∙_}
+use mathlib.Core.Path.{_≡_, refl, sym, ap, _∙_}
 use mathlib.Core.List.{List, [], _∷_, _++_}
 use lib.ListN.{length, drop, getD, set, length-set, drop-of-length-le}
 use lib.Seq.{sets, length-sets, sets-eq, drop-cons}
-use Rattle.files.specs.Number.{bytesOfAll, itemsAt}
+use Rattle.files.specs.Number.{bytesOf, bytesOfAll, itemsAt}
+use Rattle.files.specs.NumberLaws.{length-bytes}
 
 -- One list stored after another.
 pub sets-append : {A : Type 0} (old : List A) (at : ℕ) (xs ys : List A) → sets old at (xs ++ ys) ≡ sets (sets old at xs) (at + length xs) ys
@@ -70,3 +72,30 @@ module _ {A : Type 0} (bytes : A → List ℕ) (xs : List A) (i : ℕ) where
   pub bytes-none : length xs ≤ i → bytesOfAll bytes (drop i xs) ≡ []
   unfolding bytesOfAll
   bytes-none l = ap (bytesOfAll bytes) (drop-of-length-le xs l)
+
+-- ---- Numbers of w bytes stored one by one
+
+-- The numbers `ns` are being stored in `old` from `at` on: those from the i-th on are left.
+pub record Putting (w : ℕ) (old : List ℕ) (at : ℕ) (ns new : List ℕ) (next i : ℕ) : Type 0 where
+  pub place : next ≡ at + w * i
+  pub stored : Storing old at (bytesOfAll (bytesOf w) ns) new next (bytesOfAll (bytesOf w) (drop i ns))
+
+pub put-begin : (w : ℕ) (old : List ℕ) (at : ℕ) (ns : List ℕ) → Putting w old at ns old at 0
+put-begin w old at ns = record { place = omega (arith, mul-zero w); stored = none-stored old at (bytesOfAll (bytesOf w) ns) }
+
+module _ {w : ℕ} {old : List ℕ} {at : ℕ} {ns new : List ℕ} {next i : ℕ} (p : Putting w old at ns new next i) where
+  pub put-inside : i < length ns → at + w * length ns ≤ length old → next + w ≤ length new
+  put-inside h m =
+      let e = mul-suc w i in
+      let l : w * suc i ≤ w * length ns = mul-le-mul (le-refl w) h in
+      omega (arith, p .place, p .stored .same)
+
+  pub put-next : i < length ns → (new′ : List ℕ) → new′ ≡ sets new next (bytesOf w (getD ns i 0)) → Putting w old at ns new′ (next + w) (i + 1)
+  put-next h new′ e =
+      record {
+        place = omega (arith, p .place, mul-suc w i, ap (λ (n : ℕ). w * n) (add-one i));
+        stored = some-stored (p .stored) (bytesOf w (getD ns i 0)) _ new′ w (length-bytes w _) (bytes-next (bytesOf w) ns i 0 h) e;
+      }
+
+  pub put-end : length ns ≤ i → new ≡ sets old at (bytesOfAll (bytesOf w) ns)
+  put-end h = all-stored (p .stored) (bytes-none (bytesOf w) ns i h)

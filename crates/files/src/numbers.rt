@@ -1,10 +1,10 @@
 // Little-endian numbers of 1 to 8 bytes. Public only for this crate's calls, which show what is
 // required.
-ghost use Prim.Native.Nat.{_+_, _^_, _≤_, _<_};
+ghost use Prim.Native.Nat.{_+_, _*_, _^_, _≤_, _<_};
 ghost use mathlib.Core.Path.{_≡_};
 ghost use lib.ListN.{length};
 ghost use lib.Seq.{sets};
-ghost use Rattle.files.specs.Number.{bytesOf, numberAt};
+ghost use Rattle.files.specs.Number.{bytesOf, bytesOfAll, numberAt};
 
 // The number of `width` bytes at `at`, taken from its highest byte down.
 pub fn number_at(bytes: &[u8], at: usize, width: usize) -> u64
@@ -41,5 +41,19 @@ pub fn put_number(bytes: &mut [u8], at: usize, width: usize, value: u64)
         bytes[at + k] = (rest % 256) as u8;
         rest /= 256;
         k += 1;
+    }
+}
+
+// Stores the 4 bytes of each number of a list from `at` on.
+pub fn put_words(bytes: &mut [u8], at: usize, words: &[u32])
+    requires { ⌜ at + 4 * length (now words) ≤ length (now bytes) ⌝ }
+    ensures { λ _. ⌜ now (bytes .exit) ≡ sets (now (bytes .entry)) at (bytesOfAll (bytesOf 4) (now (words .entry))) ⌝ }
+{
+    let mut next = at;
+    let mut i = 0;
+    while i < words.len() {
+        put_number(bytes, next, 4, words[i] as u64);
+        next += 4;
+        i += 1;
     }
 }

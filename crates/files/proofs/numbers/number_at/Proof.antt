@@ -5,7 +5,7 @@ use native.Mathlib.Nat.{le-trans, zero-lt-suc, one-le-pow, pow-le-pow-right, pow
 use mathlib.Core.Path.{_≡_, sym, ap, subst, _∙_}
 use mathlib.Core.List.{List}
 use borrow.Author.Needs.{needs}
-use lib.ListN.{length, take, drop, getD}
+use lib.ListN.{length, getD}
 use Rattle.files.specs.Number.{valueOf, numberAt}
 use Rattle.files.specs.NumberLaws.{number-next}
 use Rattle.files.proofs.numbers.number_at.Statement.{statement}

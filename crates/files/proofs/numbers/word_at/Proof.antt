@@ -1,5 +1,4 @@
 -- A number of 4 bytes has 32 bits.
-use Prim.Native.Nat.{_≤_}
 use native.Mathlib.Omega.{arith}
 use borrow.Author.Needs.{needs}
 use Rattle.files.proofs.numbers.word_at.Statement.{statement}

@@ -1,5 +1,4 @@
 -- Each refusal is the first rule that its test finds broken, and leaves the list; past the tests the demands are stored.
-use Prim.Native.Nat.{_≤_}
 use native.Mathlib.Omega.{arith}
 use mathlib.Core.Path.{_≡_, sym}
 use mathlib.Core.Bool.{true}
