@@ -1,21 +1,24 @@
 -- The laws of the order file: an order that breaks no rule is read, reading undoes writing and writing undoes reading.
 -- Assumes nothing.
-use Prim.Native.Nat.{ℕ, _/_, _≤_}
-use mathlib.Core.Path.{_≡_, refl, sym, ap}
+use Prim.Native.Nat.{ℕ, _+_, _/_, _≤_}
+use mathlib.Core.Path.{_≡_, refl, sym, ap, ap₂, _∙_}
 use mathlib.Core.Bool.{true, false, _&&_}
-use mathlib.Core.List.{List, []}
+use mathlib.Core.List.{List, [], append-nil}
 use borrow.Author.Tests.{leb-true, le-leb, eqb-true, eq-eqb}
 use lib.Dec.{leb, eqb}
-use lib.ListN.{length, drop}
+use lib.ListN.{length, drop, length-append}
+use lib.Seq.{sets}
+use Rattle.terms.specs.declared.Tariff.{Tariff}
 use Rattle.terms.specs.Answer.{Answer, figures, refused}
 use Rattle.terms.specs.AnswerLaws.{same-figures, weigh-figures}
 use Rattle.terms.specs.Bools.{and-both, and-three, both-and}
 use Rattle.terms.specs.Ranges.{periodsOk, tariffOk}
 use Rattle.terms.specs.RangeLaws.{PeriodsRange, TariffRange, periods-range, periods-ok, tariff-range, tariff-ok}
 use Rattle.files.specs.declared.orders.Order.{Order}
-use Rattle.files.specs.Number.{numberAt}
-use Rattle.files.specs.NumberLaws.{length-items}
-use Rattle.files.specs.Order.{orderKind, tariffOffset, traceOffset, orderLength, tariffIn, orderPlaced, readOrder, partOf, tracePart, partOk, demandsIn, spreadOf}
+use Rattle.files.specs.Number.{bytesOf, numberAt, bytesOfAll}
+use Rattle.files.specs.NumberLaws.{length-items, length-bytes, length-all}
+use Rattle.files.specs.StoreLaws.{none-stored, some-stored, all-stored}
+use Rattle.files.specs.Order.{orderKind, tariffOffset, traceOffset, orderLength, tariffIn, orderPlaced, readOrder, partOf, tracePart, partOk, demandsIn, spreadOf, orderWords, orderBytes, writeOrder}
 
 -- ---- Reading, rule by rule
 
@@ -128,3 +131,43 @@ module _ (room : ℕ) (part : List ℕ) where
 
 pub length-demands : (part : List ℕ) → length (demandsIn part) ≡ length part / 2
 length-demands part = length-items (numberAt 2 part) 2 (length part / 2) 0
+
+-- ---- Writing, rule by rule
+
+module _ (room : ℕ) (t : Tariff) (ds : List ℕ) where
+  pub write-periods : periodsOk (length ds) ≡ false → writeOrder room t ds ≡ refused 3
+  unfolding writeOrder
+  write-periods h = rw h
+
+  module _ (counts : periodsOk (length ds) ≡ true) where
+    pub write-figure : tariffOk t ≡ false → writeOrder room t ds ≡ refused 5
+    unfolding writeOrder
+    write-figure h = rw (counts, h)
+
+    module _ (tariff : tariffOk t ≡ true) where
+      pub write-room : leb (orderLength (length ds)) room ≡ false → writeOrder room t ds ≡ refused 6
+      unfolding writeOrder
+      write-room h = rw (counts, tariff, h)
+
+      pub write-figures : leb (orderLength (length ds)) room ≡ true → writeOrder room t ds ≡ figures (orderBytes (length ds) t ds)
+      unfolding writeOrder
+      write-figures h = rw (counts, tariff, h) refl
+
+-- ---- The bytes of an order
+
+pub length-header : (T : ℕ) (t : Tariff) → length (bytesOfAll (bytesOf 4) (orderWords T t)) ≡ traceOffset
+length-header T t = length-all (bytesOf 4) 4 (length-bytes 4) (orderWords T t)
+
+pub length-order : (T : ℕ) (t : Tariff) (ds : List ℕ) → length (orderBytes T t ds) ≡ orderLength (length ds)
+length-order T t ds =
+    length-append (bytesOfAll (bytesOf 4) (orderWords T t)) (bytesOfAll (bytesOf 2) ds)
+    ∙ ap₂ (λ (m n : ℕ). m + n) (length-header T t) (length-all (bytesOf 2) 2 (length-bytes 2) ds)
+
+-- The header and then the demands, each stored in its place, are the order stored at the front.
+pub order-stored : (T : ℕ) (t : Tariff) (ds old new newer : List ℕ) → new ≡ sets old 0 (bytesOfAll (bytesOf 4) (orderWords T t)) → newer ≡ sets new traceOffset (bytesOfAll (bytesOf 2) ds)
+    → newer ≡ sets old 0 (orderBytes T t ds)
+order-stored T t ds old new newer e f =
+    let head = bytesOfAll (bytesOf 4) (orderWords T t) in
+    let rest = bytesOfAll (bytesOf 2) ds in
+    let first = some-stored (none-stored old 0 (orderBytes T t ds)) head rest new traceOffset (length-header T t) refl e in
+    all-stored (some-stored first rest [] newer (length rest) refl (sym (append-nil rest)) f) refl

@@ -11,6 +11,7 @@ pub use orders::Order;
 pub use orders::OrderAnswer;
 pub use orders::read_order;
 pub use orders::trace_part;
+pub use orders::write_order;
 pub use traces::spread;
 pub use plans::PlanAnswer;
 pub use plans::PlanFigures;

@@ -1,5 +1,8 @@
-// The order file read: T and the tariff, and the part that holds the trace.
+// The order file: read, its trace's part handed back, and written.
+use crate::fills::FillAnswer;
+use crate::numbers::put_words;
 use crate::numbers::word_at;
+use crate::traces::put_demands;
 use terms::Depth;
 use terms::DepthPrice;
 use terms::Factor;
@@ -12,14 +15,19 @@ use terms::tariff_in_range;
 ghost use Prim.Native.Nat.{_≤_};
 ghost use mathlib.Core.Path.{_≡_};
 ghost use lib.ListN.{length};
+ghost use lib.Seq.{sets};
+ghost use Rattle.terms.specs.Answer.{onFigures};
+ghost use Rattle.terms.specs.Lent.{filled};
 ghost use Rattle.terms.specs.RangeLaws.{PeriodsRange};
-ghost use Rattle.files.specs.Order.{orderPlaced, orderSays, readOrder, tariffIn, tracePart};
+ghost use Rattle.files.specs.Fill.{fillSays};
+ghost use Rattle.files.specs.Number.{bytesOf, bytesOfAll};
+ghost use Rattle.files.specs.Order.{orderPlaced, orderSays, orderWords, readOrder, tariffIn, tracePart, writeOrder};
 
-pub const ORDER_KIND: u32 = 1;
+const ORDER_KIND: u32 = 1;
 
-pub const TARIFF_OFFSET: usize = 20;
+const TARIFF_OFFSET: usize = 20;
 
-pub const TRACE_OFFSET: usize = 48;
+const TRACE_OFFSET: usize = 48;
 
 // What reading an order gives: T and the tariff.
 pub struct Order {
@@ -95,4 +103,49 @@ pub fn trace_part(bytes: &[u8]) -> &[u8]
         OrderAnswer::Read(_) => &bytes[TRACE_OFFSET..],
         OrderAnswer::Refused(_) => &bytes[..0],
     }
+}
+
+// Writes an order of these demands into the front of the bytes and answers its length; or refusal
+// 3, 5 or 6 (bytes fewer than the file), and the bytes are as they were.
+pub fn write_order(tariff: Tariff, trace: &[u16], bytes: &mut [u8]) -> FillAnswer
+    ensures { λ r. ⌜ fillSays r ≡ onFigures length (writeOrder (length (now (bytes .entry))) tariff (now (trace .entry))) ⌝ }
+    ensures { λ _. ⌜ now (bytes .exit) ≡ filled (writeOrder (length (now (bytes .entry))) tariff (now (trace .entry))) (now (bytes .entry)) ⌝ }
+{
+    let periods = trace.len();
+    if !periods_in_range(periods) {
+        return FillAnswer::Refused(Refusal::Periods);
+    }
+    if !tariff_in_range(tariff) {
+        return FillAnswer::Refused(Refusal::Figure);
+    }
+    let length = TRACE_OFFSET + 2 * periods;
+    if bytes.len() < length {
+        return FillAnswer::Refused(Refusal::List);
+    }
+    put_header(bytes, periods as u32, tariff);
+    put_demands(bytes, TRACE_OFFSET, trace);
+    FillAnswer::Filled(length)
+}
+
+// Stores the numbers that come before the trace.
+fn put_header(bytes: &mut [u8], periods: u32, tariff: Tariff)
+    requires { ⌜ 48 ≤ length (now bytes) ⌝ }
+    requires { ⌜ PeriodsRange periods ⌝ }
+    ensures { λ _. ⌜ now (bytes .exit) ≡ sets (now (bytes .entry)) 0 (bytesOfAll (bytesOf 4) (orderWords periods tariff)) ⌝ }
+{
+    let words = [
+        ORDER_KIND,
+        periods,
+        TARIFF_OFFSET as u32,
+        TRACE_OFFSET as u32,
+        TRACE_OFFSET as u32 + 2 * periods,
+        tariff.rate_price.0,
+        tariff.depth_price.0,
+        tariff.fee,
+        tariff.factor.p,
+        tariff.factor.q,
+        tariff.rate_cap.0,
+        tariff.depth_cap.0,
+    ];
+    put_words(bytes, 0, &words);
 }
