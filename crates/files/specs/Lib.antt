@@ -6,4 +6,5 @@ pub mod Plan
 pub mod NumberLaws
 pub mod StoreLaws
 pub mod FillLaws
+pub mod RecordLaws
 pub mod OrderLaws

@@ -162,12 +162,3 @@ pub length-order : (T : ℕ) (t : Tariff) (ds : List ℕ) → length (orderBytes
 length-order T t ds =
     length-append (bytesOfAll (bytesOf 4) (orderWords T t)) (bytesOfAll (bytesOf 2) ds)
     ∙ ap₂ (λ (m n : ℕ). m + n) (length-header T t) (length-all (bytesOf 2) 2 (length-bytes 2) ds)
-
--- The header and then the demands, each stored in its place, are the order stored at the front.
-pub order-stored : (T : ℕ) (t : Tariff) (ds old new newer : List ℕ) → new ≡ sets old 0 (bytesOfAll (bytesOf 4) (orderWords T t)) → newer ≡ sets new traceOffset (bytesOfAll (bytesOf 2) ds)
-    → newer ≡ sets old 0 (orderBytes T t ds)
-order-stored T t ds old new newer e f =
-    let head = bytesOfAll (bytesOf 4) (orderWords T t) in
-    let rest = bytesOfAll (bytesOf 2) ds in
-    let first = some-stored (none-stored old 0 (orderBytes T t ds)) head rest new traceOffset (length-header T t) refl e in
-    all-stored (some-stored first rest [] newer (length rest) refl (sym (append-nil rest)) f) refl

@@ -93,8 +93,9 @@ planIn bs =
     (weigh (eqb (numberAt 4 bs 0) planKind) 2
     (weigh (countsOk T k) 3
     (weigh (planPlaced k bs) 4
-    (weigh (leb cost costLimit && recordsOk T (recordsIn k bs)) 5
-    (figures (record { periods = T; cost = cost; buckets = recordsIn k bs }))))))
+    (weigh (leb cost costLimit) 5
+    (weigh (recordsOk T (recordsIn k bs)) 5
+    (figures (record { periods = T; cost = cost; buckets = recordsIn k bs })))))))
 
 -- 6, once the file itself is weighed: lists with less room than buckets.
 abbrev pub fitting : ℕ → Answer Recorded → Answer Recorded
@@ -118,9 +119,13 @@ planSays (Refused x) = refused (numberOf x)
 
 -- ---- Writing
 
--- The first k records of three lists of run lengths, rates and depths.
+-- The record at an index of three lists of run lengths, rates and depths.
+abbrev pub listed : List ℕ → List ℕ → List ℕ → ℕ → BucketRecord
+listed runs rates depths i = recordOf (getD runs i 0) (getD rates i 0) (getD depths i 0)
+
+-- The first k records of the lists.
 abbrev pub recordsOf : ℕ → List ℕ → List ℕ → List ℕ → Cutting
-recordsOf k runs rates depths = itemsAt (λ i. recordOf (getD runs i 0) (getD rates i 0) (getD depths i 0)) 1 k 0
+recordsOf k runs rates depths = itemsAt (listed runs rates depths) 1 k 0
 
 -- 3: T and k; 5: the cost; 6: lists under k, whose records are not weighed; 5: the records; 6: bytes fewer than the file.
 unfoldable pub writePlan : ℕ → PlanFigures → List ℕ → List ℕ → List ℕ → Answer (List ℕ)

@@ -18,6 +18,12 @@ sets-append old at (x ∷ xs) ys =
     let e : suc at + length xs ≡ at + suc (length xs) = omega arith in
     sets-append (set old at x) (suc at) xs ys ∙ ap (λ (n : ℕ). sets (sets (set old at x) (suc at) xs) n ys) e
 
+-- Two calls that store one list after another have stored both at the front.
+pub sets-both : {A : Type 0} (old xs ys new newer : List A) (n : ℕ) → length xs ≡ n → new ≡ sets old 0 xs → newer ≡ sets new n ys → newer ≡ sets old 0 (xs ++ ys)
+sets-both old xs ys new newer n l e f =
+    let m : n ≡ 0 + length xs = omega (arith, l) in
+    f ∙ ap (λ (zs : List _). sets zs n ys) e ∙ ap (λ (k : ℕ). sets (sets old 0 xs) k ys) m ∙ sym (sets-append old 0 xs ys)
+
 -- A list stored at the front.
 pub sets-front : {A : Type 0} (xs old : List A) → length xs ≤ length old → sets old 0 xs ≡ xs ++ drop (length xs) old
 sets-front xs old l = let e : 0 + length xs ≡ length xs = omega arith in sets-eq xs old 0 (omega arith) ∙ ap (λ (n : ℕ). xs ++ drop n old) e

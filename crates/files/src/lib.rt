@@ -4,6 +4,7 @@ mod fills;
 mod numbers;
 mod orders;
 mod plans;
+mod records;
 mod traces;
 
 pub use fills::FillAnswer;
@@ -15,3 +16,5 @@ pub use orders::write_order;
 pub use traces::spread;
 pub use plans::PlanAnswer;
 pub use plans::PlanFigures;
+pub use plans::read_plan;
+pub use plans::write_plan;

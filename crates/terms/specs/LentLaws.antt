@@ -1,6 +1,7 @@
 -- When lent lists have room, and that a filled list begins with what fills it.
 -- Assumes nothing.
-use Prim.Native.Nat.{ℕ, min}
+use Prim.Native.Nat.{ℕ, min, _≤_}
+use native.Mathlib.Nat.{le-trans, min-le-left, min-le-right}
 use mathlib.Core.Path.{_≡_, ap, _∙_}
 use mathlib.Core.Bool.{Bool, _&&_}
 use mathlib.Core.List.{List}
@@ -9,11 +10,16 @@ use lib.ListN.{length, take, drop}
 use lib.Seq.{take-append-seam}
 use Rattle.terms.specs.Answer.{figures}
 use Rattle.terms.specs.Bools.{leb-min}
-use Rattle.terms.specs.Lent.{filled}
+use Rattle.terms.specs.Lent.{filled, roomOf}
 
 -- The room of three lists is enough exactly when each has it.
 pub room-each : (n a b c : ℕ) → leb n a && leb n b && leb n c ≡ leb n (min (min a b) c)
 room-each n a b c = ap (λ (x : Bool). x && leb n c) (leb-min n a b) ∙ leb-min n (min a b) c
+
+pub room-parts : (n : ℕ) (xs ys zs : List ℕ) → n ≤ roomOf xs ys zs → (n ≤ length xs) × (n ≤ length ys) × (n ≤ length zs)
+room-parts n xs ys zs h =
+    let two = le-trans h (min-le-left (min (length xs) (length ys)) (length zs)) in
+    (le-trans two (min-le-left _ _), le-trans two (min-le-right (length xs) _), le-trans h (min-le-right (min (length xs) (length ys)) _))
 
 -- What fills a list is its front.
 pub filled-front : {A : Type 0} (xs old : List A) → take (length xs) (filled (figures xs) old) ≡ xs

@@ -7,8 +7,10 @@ use lib.ListN.{length}
 use Rattle.terms.specs.Bools.{check-passed, check-failed}
 use Rattle.terms.specs.Ranges.{periodsOk, tariffOk}
 use Rattle.terms.specs.RangeLaws.{periods-range}
-use Rattle.files.specs.Order.{orderBytes}
-use Rattle.files.specs.OrderLaws.{length-order, order-stored, write-periods, write-figure, write-room, write-figures}
+use Rattle.files.specs.Number.{bytesOf, bytesOfAll}
+use Rattle.files.specs.Order.{orderBytes, orderWords, traceOffset}
+use Rattle.files.specs.OrderLaws.{length-header, length-order, write-periods, write-figure, write-room, write-figures}
+use Rattle.files.specs.StoreLaws.{sets-both}
 use Rattle.files.specs.FillLaws.{fill-refused, fill-stored}
 use borrow.Author.Needs.{needs}
 use Rattle.files.proofs.orders.write_order.Statement.{statement}
@@ -57,7 +59,7 @@ same-length : tie.Need-same-length
 same-length c = search needs
 
 returns-4 : tie.Need-returns-4
-returns-4 c = let h = c .before .before .before .before .before .before in let e = h .before .before in let s = e .before .before .before .before .before .before .before .args in fill-stored _ (s .bytes .now) (orderBytes (length (s .trace .now)) (s .tariff) (s .trace .now)) _ _ (write-figures _ _ _ (counts (e .before .before .before)) (figures (e .before)) (le-leb _ _ (e .if3 .left))) (sym (length-order _ (s .tariff) (s .trace .now))) (omega (arith, e .if3 .left, length-order (length (s .trace .now)) (s .tariff) (s .trace .now))) (order-stored _ _ _ _ _ _ (h .put-header .ensures) (c .before .before .put-demands .ensures))
+returns-4 c = let h = c .before .before .before .before .before .before in let e = h .before .before in let s = e .before .before .before .before .before .before .before .args in fill-stored _ (s .bytes .now) (orderBytes (length (s .trace .now)) (s .tariff) (s .trace .now)) _ _ (write-figures _ _ _ (counts (e .before .before .before)) (figures (e .before)) (le-leb _ _ (e .if3 .left))) (sym (length-order _ (s .tariff) (s .trace .now))) (omega (arith, e .if3 .left, length-order (length (s .trace .now)) (s .tariff) (s .trace .now))) (sets-both (s .bytes .now) (bytesOfAll (bytesOf 4) (orderWords (length (s .trace .now)) (s .tariff))) (bytesOfAll (bytesOf 2) (s .trace .now)) _ _ traceOffset (length-header (length (s .trace .now)) (s .tariff)) (h .put-header .ensures) (c .before .before .put-demands .ensures))
 
 pub write-order-spec : {M : Type 1} → statement M
 write-order-spec =

@@ -9,6 +9,7 @@ use Rattle.terms.specs.Records.{Cutting, runDepth, runLength, runRate}
 use Rattle.series.specs.SeriesLaws.{IsSeries, series-is}
 use Rattle.terms.specs.Answer.{Answer, figures}
 use Rattle.terms.specs.AnswerLaws.{same-figures}
+use Rattle.terms.specs.LentLaws.{room-parts}
 use Rattle.terms.specs.RangeLaws.{PeriodsRange}
 use Rattle.terms.specs.declared.Bucket.{Bucket}
 use Rattle.terms.specs.declared.BucketRecord.{BucketRecord}
@@ -18,7 +19,6 @@ use borrow.Rule.Slice.PartAt.{part-count}
 use lib.ListN.{length, take, drop, getD, set, length-drop, drop-of-length-le}
 use mathlib.Core.List.{List, []}
 use mathlib.Core.Path.{_≡_, refl, sym, ap, subst, _∙_}
-use native.Mathlib.Nat.{le-trans, min-le-left, min-le-right}
 use native.Mathlib.Omega.{arith}
 use Rattle.series.proofs.records.record_runs.Statement.{statement}
 use Rattle.series.proofs.records.record_runs.Tie as tie
@@ -49,11 +49,6 @@ begin t ds firsts runs rates depths f =
     }
 
 module _ (t : Tariff) (ds runs₀ rates₀ depths₀ runs rates depths : List ℕ) (start k : ℕ) (r : Recording t ds runs₀ rates₀ depths₀ runs rates depths start k) where
-  room-each : length ds ≤ roomOf runs₀ rates₀ depths₀ → (length ds ≤ length runs₀) × (length ds ≤ length rates₀) × (length ds ≤ length depths₀)
-  room-each m =
-      let n = le-trans m (min-le-left (min (length runs₀) (length rates₀)) (length depths₀)) in
-      (le-trans n (min-le-left _ _), le-trans n (min-le-right (length runs₀) _), le-trans m (min-le-right (min (length runs₀) (length rates₀)) _))
-
   module _ (firsts : List ℕ) (f : Firsts t ds firsts) (l : start < length ds) where
     -- the run that a turn stores
     abbrev this : BucketRecord
@@ -90,7 +85,7 @@ module _ (t : Tariff) (ds runs₀ rates₀ depths₀ runs rates depths : List �
 
     k-room : length ds ≤ roomOf runs₀ rates₀ depths₀ → (k < length runs) × (k < length rates) × (k < length depths)
     k-room m =
-        let room = room-each m in (
+        let room = room-parts (length ds) runs₀ rates₀ depths₀ m in (
           omega (arith, next .more, r .few, room .0, r .runs-stored .same),
           omega (arith, next .more, r .few, room .1, r .rates-stored .same),
           omega (arith, next .more, r .few, room .2, r .depths-stored .same),
@@ -99,7 +94,7 @@ module _ (t : Tariff) (ds runs₀ rates₀ depths₀ runs rates depths : List �
     step : (b : Bucket) → runRecord t part ≡ figures (record { periods = length part; bucket = b }) → length ds ≤ roomOf runs₀ rates₀ depths₀
         → Recording t ds runs₀ rates₀ depths₀ (set runs k (getD firsts start 0)) (set rates k (b .rate .0)) (set depths k (b .depth .0)) (start + getD firsts start 0) (k + 1)
     step b e m =
-        let room = room-each m in
+        let room = room-parts (length ds) runs₀ rates₀ depths₀ m in
         let b-is : b ≡ this .bucket = ap (λ (x : BucketRecord). x .bucket) (same-figures (sym e ∙ part-record)) in
         record {
           cut = r .cut;

@@ -1,0 +1,64 @@
+-- Bucket records weighed one by one.
+-- Assumes nothing.
+use Prim.Native.Nat.{ℕ, _+_, _-_, _*_, _≤_, _<_}
+use native.Mathlib.Omega.{arith}
+use native.Mathlib.Nat.{add-zero, zero-add}
+use mathlib.Core.Path.{_≡_, sym, ap, ap₂, _∙_}
+use mathlib.Core.Bool.{Bool, true, _&&_, and-true, and-assoc}
+use mathlib.Core.List.{[], _∷_}
+use lib.Dec.{eqb}
+use Rattle.terms.specs.declared.BucketRecord.{BucketRecord}
+use Rattle.terms.specs.Ranges.{recordOk}
+use Rattle.terms.specs.Records.{Cutting, runLength, total}
+use Rattle.files.specs.Number.{itemsAt}
+use Rattle.files.specs.StoreLaws.{items-next, items-none}
+use Rattle.files.specs.Plan.{allOk, recordsOk}
+
+-- The greatest number of 4 bytes.
+abbrev pub wordLimit : ℕ
+wordLimit = 4294967295
+
+-- The k records that `read` gives, `width` apart from `start` on.
+module _ (read : ℕ → BucketRecord) (width k start : ℕ) where
+  abbrev all : Cutting
+  all = itemsAt read width k start
+
+  -- i of them are weighed, whether they are in range and the sum of their run lengths; those from `at` on are left.
+  pub record Weighed (ok : Bool) (sum at i : ℕ) : Type 0 where
+    pub ranges : ok && allOk (itemsAt read width (k - i) at) ≡ allOk all
+    pub lengths : sum + total runLength (itemsAt read width (k - i) at) ≡ total runLength all
+    pub small : sum ≤ wordLimit * i
+
+  pub none-weighed : Weighed true 0 start 0
+  none-weighed =
+      let e : k - 0 ≡ k = omega arith in
+      record {
+        ranges = ap (λ (n : ℕ). allOk (itemsAt read width n start)) e;
+        lengths = zero-add _ ∙ ap (λ (n : ℕ). total runLength (itemsAt read width n start)) e;
+        small = omega arith;
+      }
+
+  module _ {ok : Bool} {sum at i : ℕ} (w : Weighed ok sum at i) where
+    pub one-weighed : i < k → (x : BucketRecord) (b : Bool) → x ≡ read at → b ≡ recordOk x → runLength x ≤ wordLimit → Weighed (ok && b) (sum + runLength x) (at + width) (i + 1)
+    unfolding allOk total
+    one-weighed l x b e f m =
+        let rest = itemsAt read width (k - (i + 1)) (at + width) in
+        let n : x ∷ rest ≡ itemsAt read width (k - i) at = ap (λ (y : BucketRecord). y ∷ rest) e ∙ sym (items-next read width k i at l) in
+        let s : sum + (runLength x + total runLength rest) ≡ total runLength all = ap (λ (ys : Cutting). sum + total runLength ys) n ∙ w .lengths in
+        record {
+          ranges =
+              ap (λ (c : Bool). ok && c && allOk rest) f
+              ∙ and-assoc ok (recordOk x) (allOk rest)
+              ∙ ap (λ (ys : Cutting). ok && allOk ys) n
+              ∙ w .ranges;
+          lengths = omega arith;
+          small = omega (arith, w .small);
+        }
+
+    pub all-weighed : k ≤ i → (T : ℕ) → ok && eqb sum T ≡ recordsOk T all
+    unfolding allOk total
+    all-weighed l T =
+        let n : [] ≡ itemsAt read width (k - i) at = sym (items-none read width k i at l) in
+        let o : ok ≡ allOk all = sym (and-true ok) ∙ ap (λ (ys : Cutting). ok && allOk ys) n ∙ w .ranges in
+        let s : sum ≡ total runLength all = sym (add-zero sum) ∙ ap (λ (ys : Cutting). sum + total runLength ys) n ∙ w .lengths in
+        ap₂ (λ (b : Bool) (n : ℕ). b && eqb n T) o s
