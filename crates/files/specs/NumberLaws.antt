@@ -4,7 +4,7 @@ use Prim.Native.Nat.{ℕ, zero, suc, _+_, _*_, _/_, _%_, _^_, _≤_, _<_}
 use native.Mathlib.Omega.{arith}
 use native.Mathlib.Nat.{zero-lt-suc, zero-add, div-lt-iff-lt-mul, mod-add-div, add-mul-div-left, add-mul-mod-self-left, div-eq-of-lt, mod-eq-of-lt, pow-suc, one-le-pow, mul-zero, mul-suc, mul-le-mul, le-refl}
 use native.Mathlib.Numerals.{add-one}
-use mathlib.Core.Path.{_≡_, refl, sym, ap, subst, _∙_}
+use mathlib.Core.Path.{_≡_, refl, sym, ap, ap₂, subst, _∙_}
 use mathlib.Core.List.{List, [], _∷_, _++_, append-assoc}
 use lib.ListN.{length, take, drop, getD, length-append, length-drop}
 use lib.Seq.{take-at, drop-append-seam, take-add, drop-cons, drop-drop, getD-drop}
@@ -86,6 +86,16 @@ number-next w bs at l =
 
 -- ---- Items of one width
 
+-- Each item of a list is Ok.
+abbrev pub Each : {A : Type 0} → (A → Type 0) → List A → Type 0
+Each Ok [] = Unit {0}
+Each Ok (x ∷ xs) = Ok x × Each Ok xs
+
+-- By index; d stands past the end.
+pub each-at : {A : Type 0} (Ok : A → Type 0) (d : A) (xs : List A) → ((i : ℕ) → i < length xs → Ok (getD xs i d)) → Each Ok xs
+each-at Ok d [] h = tt
+each-at Ok d (x ∷ xs) h = (h 0 (omega arith), each-at Ok d xs (λ i l. h (suc i) (omega arith)))
+
 pub length-items : {A : Type 0} (read : ℕ → A) (width n at : ℕ) → length (itemsAt read width n at) ≡ n
 unfolding itemsAt
 length-items read width zero at = refl
@@ -101,21 +111,20 @@ module _ {A : Type 0} (bytes : A → List ℕ) (width : ℕ) where
         let f : width * suc (length xs) ≡ width * length xs + width = mul-suc width (length xs) in
         omega (arith, each x, length-all xs)
 
-    -- Items that are read back one by one are read back all; d stands past the end of a list.
-    module _ (read : List ℕ → ℕ → A) (Ok : A → Type 0) (back : (x : A) → Ok x → (before after : List ℕ) → read (before ++ bytes x ++ after) (length before) ≡ x) (d : A) where
-      pub items-written : (xs : List A) → ((i : ℕ) → i < length xs → Ok (getD xs i d)) → (before after : List ℕ)
-          → itemsAt (read (before ++ bytesOfAll bytes xs ++ after)) width (length xs) (length before) ≡ xs
+    -- Items that are read back one by one are read back all.
+    module _ (read : List ℕ → ℕ → A) (Ok : A → Type 0) (back : (x : A) → Ok x → (before after : List ℕ) → read (before ++ bytes x ++ after) (length before) ≡ x) where
+      pub items-written : (xs : List A) → Each Ok xs → (before after : List ℕ) → itemsAt (read (before ++ bytesOfAll bytes xs ++ after)) width (length xs) (length before) ≡ xs
       unfolding bytesOfAll itemsAt
       items-written [] ok before after = refl
       items-written (x ∷ xs) ok before after =
           let rest = bytesOfAll bytes xs in
-          let e : before ++ (bytes x ++ rest) ++ after ≡ before ++ bytes x ++ rest ++ after = ap (λ (ys : List ℕ). ys ++ after) (sym (append-assoc before (bytes x) rest)) in
+          let whole = before ++ bytes x ++ rest ++ after in
+          let e : before ++ (bytes x ++ rest) ++ after ≡ whole = ap (λ (ys : List ℕ). ys ++ after) (sym (append-assoc before (bytes x) rest)) in
+          let first : read whole (length before) ≡ x = ap (λ (ys : List ℕ). read ys (length before)) (append-assoc (before ++ bytes x) rest after) ∙ back x (ok .0) before (rest ++ after) in
           let n : length before + width ≡ length (before ++ bytes x) = ap (λ (m : ℕ). length before + m) (sym (each x)) ∙ sym (length-append before (bytes x)) in
           ap (λ (ys : List ℕ). read ys (length before) ∷ itemsAt (read ys) width (length xs) (length before + width)) e
-          ∙ ap (λ (ys : List ℕ). read ys (length before) ∷ itemsAt (read (before ++ bytes x ++ rest ++ after)) width (length xs) (length before + width)) (append-assoc (before ++ bytes x) rest after)
-          ∙ ap (λ (y : A). y ∷ itemsAt (read (before ++ bytes x ++ rest ++ after)) width (length xs) (length before + width)) (back x (ok 0 (omega arith)) before (rest ++ after))
-          ∙ ap (λ (m : ℕ). x ∷ itemsAt (read (before ++ bytes x ++ rest ++ after)) width (length xs) m) n
-          ∙ ap (λ (ys : List A). x ∷ ys) (items-written xs (λ i l. ok (suc i) (omega arith)) (before ++ bytes x) after)
+          ∙ ap₂ (λ (y : A) (m : ℕ). y ∷ itemsAt (read whole) width (length xs) m) first n
+          ∙ ap (λ (ys : List A). x ∷ ys) (items-written xs (ok .1) (before ++ bytes x) after)
 
   -- Items that are written back one by one are written back all.
   module _ (read : ℕ → A) (bs : List ℕ) (same : (at : ℕ) → at + width ≤ length bs → bytes (read at) ≡ take width (drop at bs)) where

@@ -14,6 +14,7 @@ use Rattle.files.specs.declared.orders.Order.{Order}
 use Rattle.files.specs.declared.orders.OrderAnswer.{OrderAnswer}
 use Rattle.files.specs.declared.orders.OrderAnswer.the-variants.{Read, Refused}
 use Rattle.files.specs.Number.{bytesOf, numberAt, bytesOfAll, itemsAt}
+use Rattle.files.specs.Header.{placedAs}
 
 -- kind = 1
 abbrev pub orderKind : ℕ
@@ -55,10 +56,6 @@ tariffIn bs =
       «depth_cap» = record { 0 = numberAt 4 bs 44 };
     }
 
--- Each offset and the length are what the counts give, and the bytes are that many.
-abbrev pub orderPlaced : ℕ → List ℕ → Bool
-orderPlaced T bs = eqb (numberAt 4 bs 8) tariffOffset && eqb (numberAt 4 bs 12) traceOffset && eqb (numberAt 4 bs 16) (orderLength T) && eqb (length bs) (orderLength T)
-
 -- 1: under 20 bytes; 2: the kind; 3: T; 4: offsets and lengths; 5: the tariff.
 unfoldable pub readOrder : List ℕ → Answer Order
 readOrder bs =
@@ -66,7 +63,7 @@ readOrder bs =
     weigh (leb tariffOffset (length bs)) 1
     (weigh (eqb (numberAt 4 bs 0) orderKind) 2
     (weigh (periodsOk T) 3
-    (weigh (orderPlaced T bs) 4
+    (weigh (placedAs 8 tariffOffset traceOffset (orderLength T) bs) 4
     (weigh (tariffOk (tariffIn bs)) 5
     (figures (record { periods = T; tariff = tariffIn bs }))))))
 

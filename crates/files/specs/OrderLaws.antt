@@ -1,164 +1,212 @@
--- The laws of the order file: an order that breaks no rule is read, reading undoes writing and writing undoes reading.
+-- The order file there and back: a written order reads back as the same figures and spreads to the same demands, and any
+-- bytes that are read are what writing those figures gives.
 -- Assumes nothing.
-use Prim.Native.Nat.{ℕ, _+_, _/_, _≤_}
-use mathlib.Core.Path.{_≡_, refl, sym, ap, ap₂, _∙_}
-use mathlib.Core.Bool.{true, false, _&&_}
-use mathlib.Core.List.{List, [], append-nil}
-use borrow.Author.Tests.{leb-true, le-leb, eqb-true, eq-eqb}
-use lib.Dec.{leb, eqb}
-use lib.ListN.{length, drop, length-append}
-use lib.Seq.{sets}
+use Prim.Native.Nat.{ℕ, zero, suc, _+_, _*_, _/_, _%_, _^_, _≤_, _<_}
+use native.Mathlib.Omega.{arith}
+use native.Mathlib.Nat.{mul-div-right, mul-mod-right, zero-lt-suc, le-trans}
+use mathlib.Core.Path.{_≡_, refl, sym, ap, ap₂, subst, _∙_}
+use mathlib.Core.Bool.{true}
+use mathlib.Core.List.{List, [], _∷_, _++_, append-nil}
+use borrow.Author.Tests.{leb-true, le-leb, eq-eqb}
+use lib.Dec.{leb}
+use lib.ListN.{length, take, drop, getD, length-drop, take-append-drop}
+use lib.Seq.{drop-at, take-all}
 use Rattle.terms.specs.declared.Tariff.{Tariff}
-use Rattle.terms.specs.Answer.{Answer, figures, refused}
+use Rattle.terms.specs.Answer.{Answer, figures}
 use Rattle.terms.specs.AnswerLaws.{same-figures, weigh-figures}
-use Rattle.terms.specs.Bools.{and-both, and-three, both-and}
+use Rattle.terms.specs.Bools.{both-and}
 use Rattle.terms.specs.Ranges.{periodsOk, tariffOk}
 use Rattle.terms.specs.RangeLaws.{PeriodsRange, TariffRange, periods-range, periods-ok, tariff-range, tariff-ok}
 use Rattle.files.specs.declared.orders.Order.{Order}
-use Rattle.files.specs.Number.{bytesOf, numberAt, bytesOfAll}
-use Rattle.files.specs.NumberLaws.{length-items, length-bytes, length-all}
-use Rattle.files.specs.StoreLaws.{none-stored, some-stored, all-stored}
-use Rattle.files.specs.Order.{orderKind, tariffOffset, traceOffset, orderLength, tariffIn, orderPlaced, readOrder, partOf, tracePart, partOk, demandsIn, spreadOf, orderWords, orderBytes, writeOrder}
+use Rattle.files.specs.Number.{bytesOf, numberAt, bytesOfAll, itemsAt}
+use Rattle.files.specs.NumberLaws.{Fit, Bytes, fit-drop, length-bytes, length-all, number-written, number-read, Each, each-at, items-written, items-read}
+use Rattle.files.specs.HeaderLaws.{Placed}
+use Rattle.files.specs.Order.{orderLength, orderWords, orderBytes, tariffOffset, traceOffset, tariffIn, readOrder, tracePart, partOk, demandsIn, spreadOf, writeOrder}
+use Rattle.files.specs.OrderRules.{OrderRules, orderIn, rules-read, read-rules, part-read, spread-figures, length-header, length-order, length-demands, write-figures}
 
--- ---- Reading, rule by rule
+-- ---- The words of an order
 
-module _ (T : ℕ) (bs : List ℕ) where
-  -- An order's parts in their places, as equations.
-  pub record Placed : Type 0 where
-    pub tariff-offset : numberAt 4 bs 8 ≡ tariffOffset
-    pub trace-offset : numberAt 4 bs 12 ≡ traceOffset
-    pub file-length : numberAt 4 bs 16 ≡ orderLength T
-    pub bytes : length bs ≡ orderLength T
+-- The twelve numbers of 4 bytes, as they are read.
+abbrev wordsIn : List ℕ → List ℕ
+wordsIn bs = itemsAt (numberAt 4 bs) 4 12 0
 
-  pub placed-range : orderPlaced T bs ≡ true → Placed
-  placed-range h =
-      let k = and-three (eqb (numberAt 4 bs 8) tariffOffset && eqb (numberAt 4 bs 12) traceOffset) (eqb (numberAt 4 bs 16) (orderLength T)) (eqb (length bs) (orderLength T)) h in
-      let l = and-both (eqb (numberAt 4 bs 8) tariffOffset) (eqb (numberAt 4 bs 12) traceOffset) (k .0) in
-      record { tariff-offset = eqb-true _ _ (l .0); trace-offset = eqb-true _ _ (l .1); file-length = eqb-true _ _ (k .1); bytes = eqb-true _ _ (k .2) }
+-- The tariff of such numbers.
+abbrev tariffOf : List ℕ → Tariff
+tariffOf ns =
+    record {
+      «rate_price» = record { 0 = getD ns 5 0 };
+      «depth_price» = record { 0 = getD ns 6 0 };
+      fee = getD ns 7 0;
+      factor = record { p = getD ns 8 0; q = getD ns 9 0 };
+      «rate_cap» = record { 0 = getD ns 10 0 };
+      «depth_cap» = record { 0 = getD ns 11 0 };
+    }
 
-  pub placed-ok : Placed → orderPlaced T bs ≡ true
-  placed-ok p =
-      both-and (both-and (both-and (eq-eqb _ _ (p .tariff-offset)) (eq-eqb _ _ (p .trace-offset))) (eq-eqb _ _ (p .file-length))) (eq-eqb _ _ (p .bytes))
+-- A number of 4 bytes.
+abbrev Word : ℕ → Type 0
+Word n = n < 256 ^ 4
 
-module _ (bs : List ℕ) where
-  -- T and the tariff where the bytes have them.
-  abbrev pub orderIn : Order
-  orderIn = record { periods = numberAt 4 bs 4; tariff = tariffIn bs }
+-- What the words of an order are, before the trace whatever it is.
+module _ (T : ℕ) (t : Tariff) (ds : List ℕ) (p : PeriodsRange T) (r : TariffRange t) where
+  abbrev bs : List ℕ
+  bs = orderBytes T t ds
 
-  pub order-short : leb tariffOffset (length bs) ≡ false → readOrder bs ≡ refused 1
-  unfolding readOrder
-  order-short h = rw h
+  words-fit : Each Word (orderWords T t)
+  words-fit =
+      let a : Word T = omega (arith, p .few) in
+      let b : Word (orderLength T) = omega (arith, p .few) in
+      let c : Word (t .«rate_price» .0) = omega (arith, r .rate-prices) in
+      let d : Word (t .«depth_price» .0) = omega (arith, r .depth-prices) in
+      let e : Word (t .fee) = omega (arith, r .fees) in
+      let g : Word (t .factor .q) = omega (arith, r .factor .few) in
+      let f : Word (t .factor .p) = omega (arith, r .factor .part, r .factor .few) in
+      let h : Word (t .«rate_cap» .0) = omega (arith, r .rate-caps) in
+      let i : Word (t .«depth_cap» .0) = omega (arith, r .depth-caps) in
+      (omega arith, (a, (omega arith, (omega arith, (b, (c, (d, (e, (f, (g, (h, (i, tt))))))))))))
 
-  module _ (long : leb tariffOffset (length bs) ≡ true) where
-    pub order-foreign : eqb (numberAt 4 bs 0) orderKind ≡ false → readOrder bs ≡ refused 2
-    unfolding readOrder
-    order-foreign h = rw (long, h)
+  words-are : wordsIn bs ≡ orderWords T t
+  words-are = items-written (bytesOf 4) 4 (length-bytes 4) (numberAt 4) Word (λ n l before after. number-written 4 n before after l) (orderWords T t) words-fit [] (bytesOfAll (bytesOf 2) ds)
 
-    module _ (kind : eqb (numberAt 4 bs 0) orderKind ≡ true) where
-      pub order-periods : periodsOk (numberAt 4 bs 4) ≡ false → readOrder bs ≡ refused 3
-      unfolding readOrder
-      order-periods h = rw (long, kind, h)
+  word-is : (i : ℕ) → getD (wordsIn bs) i 0 ≡ getD (orderWords T t) i 0
+  word-is i = ap (λ (ns : List ℕ). getD ns i 0) words-are
 
-      module _ (counts : periodsOk (numberAt 4 bs 4) ≡ true) where
-        pub order-misplaced : orderPlaced (numberAt 4 bs 4) bs ≡ false → readOrder bs ≡ refused 4
-        unfolding readOrder
-        order-misplaced h = rw (long, kind, counts, h)
+  tariff-is : tariffIn bs ≡ t
+  unfolding itemsAt
+  tariff-is = ap tariffOf words-are
 
-        module _ (placed : orderPlaced (numberAt 4 bs 4) bs ≡ true) where
-          pub order-figure : tariffOk (tariffIn bs) ≡ false → readOrder bs ≡ refused 5
-          unfolding readOrder
-          order-figure h = rw (long, kind, counts, placed, h)
+  periods-is : numberAt 4 bs 4 ≡ T
+  unfolding itemsAt
+  periods-is = word-is 1
 
-          pub order-figures : tariffOk (tariffIn bs) ≡ true → readOrder bs ≡ figures orderIn
-          unfolding readOrder
-          order-figures h = rw (long, kind, counts, placed, h) refl
-
--- The rules of the format as document 01 lists them.
-pub record OrderRules (bs : List ℕ) : Type 0 where
-  pub header : tariffOffset ≤ length bs
-  pub kind : numberAt 4 bs 0 ≡ orderKind
-  pub periods : PeriodsRange (numberAt 4 bs 4)
-  pub placed : Placed (numberAt 4 bs 4) bs
-  pub tariff : TariffRange (tariffIn bs)
-
--- Every order that breaks no rule of its format is read.
-pub rules-read : (bs : List ℕ) → OrderRules bs → readOrder bs ≡ figures (orderIn bs)
-rules-read bs r =
-    order-figures bs (le-leb _ _ (r .header)) (eq-eqb _ _ (r .kind)) (periods-ok _ (r .periods)) (placed-ok (numberAt 4 bs 4) bs (r .placed)) (tariff-ok _ (r .tariff))
-
--- And no other.
-pub read-rules : (bs : List ℕ) (o : Order) → readOrder bs ≡ figures o → OrderRules bs × (o ≡ orderIn bs)
-unfolding readOrder
-read-rules bs o e =
-    let T = numberAt 4 bs 4 in
-    let a = weigh-figures (leb tariffOffset (length bs)) 1 _ e in
-    let b = weigh-figures (eqb (numberAt 4 bs 0) orderKind) 2 _ (a .1) in
-    let c = weigh-figures (periodsOk T) 3 _ (b .1) in
-    let d = weigh-figures (orderPlaced T bs) 4 _ (c .1) in
-    let f = weigh-figures (tariffOk (tariffIn bs)) 5 _ (d .1) in (
+  keeps-rules : length ds ≡ T → OrderRules bs
+  unfolding itemsAt
+  keeps-rules e =
+      let l : length bs ≡ orderLength T = length-order T t ds ∙ ap orderLength e in
       record {
-        header = leb-true _ _ (a .0);
-        kind = eqb-true _ _ (b .0);
-        periods = periods-range T (c .0);
-        placed = placed-range T bs (d .0);
-        tariff = tariff-range (tariffIn bs) (f .0);
-      },
-      sym (same-figures (f .1)),
-    )
+        header = omega (arith, l);
+        kind = word-is 0;
+        periods = subst PeriodsRange (sym periods-is) p;
+        placed =
+            subst (λ (n : ℕ). Placed 8 tariffOffset traceOffset (orderLength n) bs) (sym periods-is)
+            (record { first-offset = word-is 2; second-offset = word-is 3; file-length = word-is 4; bytes = l });
+        tariff = subst TariffRange (sym tariff-is) r;
+      }
 
--- The part that holds the trace: what follows the tariff where the order is read.
-pub part-read : (bs : List ℕ) (o : Order) → readOrder bs ≡ figures o → tracePart bs ≡ drop traceOffset bs
-part-read bs o e = ap (λ (a : Answer Order). partOf a (drop traceOffset bs)) e
+  order-read : length ds ≡ T → readOrder bs ≡ figures (record { periods = T; tariff = t })
+  order-read e = rules-read bs (keeps-rules e) ∙ ap₂ (λ (n : ℕ) (u : Tariff). figures (record { periods = n; tariff = u })) periods-is tariff-is
 
-pub part-refused : (bs : List ℕ) (n : ℕ) → readOrder bs ≡ refused n → tracePart bs ≡ []
-part-refused bs n e = ap (λ (a : Answer Order). partOf a (drop traceOffset bs)) e
+-- ---- The demands of a part
 
--- ---- Spreading, rule by rule
+-- Twice as many bytes as numbers.
+half : (n : ℕ) → 2 * n / 2 ≡ n
+half n = mul-div-right n (zero-lt-suc 1)
 
-module _ (room : ℕ) (part : List ℕ) where
-  pub spread-odd : partOk (length part) ≡ false → spreadOf room part ≡ refused 3
-  unfolding spreadOf
-  spread-odd h = rw h
+part-range : (part : List ℕ) (n : ℕ) → length part ≡ 2 * n → PeriodsRange n → partOk (length part) ≡ true
+part-range part n e p =
+    both-and (both-and (eq-eqb (length part % 2) 0 (ap (λ (m : ℕ). m % 2) e ∙ mul-mod-right 2 n)) (le-leb 2 (length part) (omega (arith, p .some)))) (le-leb (length part) 1024 (omega (arith, p .few)))
 
-  module _ (ok : partOk (length part) ≡ true) where
-    pub spread-full : leb (length part / 2) room ≡ false → spreadOf room part ≡ refused 6
-    unfolding spreadOf
-    spread-full h = rw (ok, h)
+-- A part of n demands spreads to them.
+part-spread : (room : ℕ) (part : List ℕ) (n : ℕ) → length part ≡ 2 * n → PeriodsRange n → n ≤ room → spreadOf room part ≡ figures (demandsIn part)
+part-spread room part n e p l =
+    let m : length part / 2 ≡ n = ap (λ (k : ℕ). k / 2) e ∙ half n in
+    spread-figures room part (part-range part n e p) (le-leb (length part / 2) room (omega (arith, m)))
 
-    pub spread-figures : leb (length part / 2) room ≡ true → spreadOf room part ≡ figures (demandsIn part)
-    unfolding spreadOf
-    spread-figures h = rw (ok, h) refl
+demands-written : (ds : List ℕ) → Fit 2 ds → demandsIn (bytesOfAll (bytesOf 2) ds) ≡ ds
+demands-written ds fit =
+    let part = bytesOfAll (bytesOf 2) ds in
+    let n : length part / 2 ≡ length ds = ap (λ (m : ℕ). m / 2) (length-all (bytesOf 2) 2 (length-bytes 2) ds) ∙ half (length ds) in
+    ap (λ (m : ℕ). itemsAt (numberAt 2 part) 2 m 0) n
+    ∙ ap (λ (bs : List ℕ). itemsAt (numberAt 2 bs) 2 (length ds) 0) (sym (append-nil part))
+    ∙ items-written (bytesOf 2) 2 (length-bytes 2) (numberAt 2) (λ n. n < 256 ^ 2) (λ n l before after. number-written 2 n before after l) ds (each-at _ 0 ds (λ i l. fit .each i)) [] []
 
-pub length-demands : (part : List ℕ) → length (demandsIn part) ≡ length part / 2
-length-demands part = length-items (numberAt 2 part) 2 (length part / 2) 0
+demands-read : (part : List ℕ) (n : ℕ) → Bytes part → length part ≡ 2 * n → bytesOfAll (bytesOf 2) (demandsIn part) ≡ part
+demands-read part n h e =
+    let m : length part / 2 ≡ n = ap (λ (k : ℕ). k / 2) e ∙ half n in
+    items-read (bytesOf 2) 2 (numberAt 2 part) part (λ at l. number-read 2 part at h l) (length part / 2) 0 (omega (arith, m))
+    ∙ take-all (2 * (length part / 2)) part (omega (arith, m))
 
--- ---- Writing, rule by rule
+-- ---- There and back
 
-module _ (room : ℕ) (t : Tariff) (ds : List ℕ) where
-  pub write-periods : periodsOk (length ds) ≡ false → writeOrder room t ds ≡ refused 3
-  unfolding writeOrder
-  write-periods h = rw h
+-- A written order reads back as the same figures, and spreads to the same demands.
+pub record ReadsBack (t : Tariff) (ds bs : List ℕ) : Type 0 where
+  pub figures-back : readOrder bs ≡ figures (record { periods = length ds; tariff = t })
+  pub demands-back : (room : ℕ) → length ds ≤ room → spreadOf room (tracePart bs) ≡ figures ds
 
-  module _ (counts : periodsOk (length ds) ≡ true) where
-    pub write-figure : tariffOk t ≡ false → writeOrder room t ds ≡ refused 5
-    unfolding writeOrder
-    write-figure h = rw (counts, h)
+module _ (t : Tariff) (ds : List ℕ) (fit : Fit 2 ds) (p : PeriodsRange (length ds)) (r : TariffRange t) where
+  reads-back : ReadsBack t ds (orderBytes (length ds) t ds)
+  reads-back =
+      let bs = orderBytes (length ds) t ds in
+      let part = bytesOfAll (bytesOf 2) ds in
+      let e = order-read (length ds) t ds p r refl in
+      let f : tracePart bs ≡ part = part-read bs _ e ∙ drop-at (bytesOfAll (bytesOf 4) (orderWords (length ds) t)) part traceOffset (length-header (length ds) t) in
+      record {
+        figures-back = e;
+        demands-back = λ room l.
+            ap (spreadOf room) f ∙ part-spread room part (length ds) (length-all (bytesOf 2) 2 (length-bytes 2) ds) p l ∙ ap figures (demands-written ds fit);
+      }
 
-    module _ (tariff : tariffOk t ≡ true) where
-      pub write-room : leb (orderLength (length ds)) room ≡ false → writeOrder room t ds ≡ refused 6
-      unfolding writeOrder
-      write-room h = rw (counts, tariff, h)
+pub write-read : (room : ℕ) (t : Tariff) (ds bs : List ℕ) → Fit 2 ds → writeOrder room t ds ≡ figures bs → ReadsBack t ds bs
+unfolding writeOrder
+write-read room t ds bs fit e =
+    let a = weigh-figures (periodsOk (length ds)) 3 _ e in
+    let b = weigh-figures (tariffOk t) 5 _ (a .1) in
+    let c = weigh-figures (leb (orderLength (length ds)) room) 6 _ (b .1) in
+    subst (ReadsBack t ds) (same-figures (c .1)) (reads-back t ds fit (periods-range _ (a .0)) (tariff-range t (b .0)))
 
-      pub write-figures : leb (orderLength (length ds)) room ≡ true → writeOrder room t ds ≡ figures (orderBytes (length ds) t ds)
-      unfolding writeOrder
-      write-figures h = rw (counts, tariff, h) refl
+-- The words of an order that keeps the rules are those that its figures give.
+header-read : (bs : List ℕ) → OrderRules bs → orderWords (numberAt 4 bs 4) (tariffIn bs) ≡ wordsIn bs
+unfolding itemsAt
+header-read bs r =
+    let with : ℕ → ℕ → ℕ → ℕ → List ℕ = λ kind first second size.
+            kind ∷ numberAt 4 bs 4 ∷ first ∷ second ∷ size
+            ∷ numberAt 4 bs 20 ∷ numberAt 4 bs 24 ∷ numberAt 4 bs 28 ∷ numberAt 4 bs 32 ∷ numberAt 4 bs 36 ∷ numberAt 4 bs 40 ∷ numberAt 4 bs 44 ∷ [] in
+    ap₂ (λ (kind first : ℕ). with kind first traceOffset (orderLength (numberAt 4 bs 4))) (sym (r .kind)) (sym (r .placed .first-offset))
+    ∙ ap₂ (λ (second size : ℕ). with (numberAt 4 bs 0) (numberAt 4 bs 8) second size) (sym (r .placed .second-offset)) (sym (r .placed .file-length))
 
--- ---- The bytes of an order
+-- What is known of an order that is read: its part spreads to T demands.
+module _ (bs : List ℕ) (o : Order) (e : readOrder bs ≡ figures o) where
+  abbrev pub demandsOf : List ℕ
+  demandsOf = demandsIn (tracePart bs)
 
-pub length-header : (T : ℕ) (t : Tariff) → length (bytesOfAll (bytesOf 4) (orderWords T t)) ≡ traceOffset
-length-header T t = length-all (bytesOf 4) 4 (length-bytes 4) (orderWords T t)
+  rules : OrderRules bs
+  rules = read-rules bs o e .0
 
-pub length-order : (T : ℕ) (t : Tariff) (ds : List ℕ) → length (orderBytes T t ds) ≡ orderLength (length ds)
-length-order T t ds =
-    length-append (bytesOfAll (bytesOf 4) (orderWords T t)) (bytesOfAll (bytesOf 2) ds)
-    ∙ ap₂ (λ (m n : ℕ). m + n) (length-header T t) (length-all (bytesOf 2) 2 (length-bytes 2) ds)
+  T-is : numberAt 4 bs 4 ≡ o .periods
+  T-is = ap (λ (x : Order). x .periods) (sym (read-rules bs o e .1))
+
+  range : PeriodsRange (o .periods)
+  range = subst PeriodsRange T-is (rules .periods)
+
+  part-length : length (tracePart bs) ≡ 2 * o .periods
+  part-length =
+      let m : length bs ≡ orderLength (o .periods) = rules .placed .bytes ∙ ap orderLength T-is in
+      ap length (part-read bs o e) ∙ length-drop traceOffset bs ∙ omega (arith, m)
+
+  pub demands-count : length demandsOf ≡ o .periods
+  demands-count = length-demands (tracePart bs) ∙ ap (λ (n : ℕ). n / 2) part-length ∙ half (o .periods)
+
+  -- Spreading an order that is read refuses only for want of room.
+  pub read-spread : (room : ℕ) → o .periods ≤ room → spreadOf room (tracePart bs) ≡ figures demandsOf
+  read-spread room l = part-spread room (tracePart bs) (o .periods) part-length range l
+
+  -- Any bytes that are read are what writing their figures and demands gives.
+  module _ (bytes : Bytes bs) where
+    words-read : bytesOfAll (bytesOf 4) (orderWords (o .periods) (o .tariff)) ≡ take traceOffset bs
+    words-read =
+        ap (λ (x : Order). bytesOfAll (bytesOf 4) (orderWords (x .periods) (x .tariff))) (read-rules bs o e .1)
+        ∙ ap (bytesOfAll (bytesOf 4)) (header-read bs rules)
+        ∙ items-read (bytesOf 4) 4 (numberAt 4 bs) bs (λ at l. number-read 4 bs at bytes l) 12 0 (omega (arith, rules .placed .bytes))
+
+    bytes-read : orderBytes (length demandsOf) (o .tariff) demandsOf ≡ bs
+    bytes-read =
+        let part : Bytes (tracePart bs) = subst Bytes (sym (part-read bs o e)) (fit-drop bs traceOffset bytes) in
+        ap (λ (n : ℕ). orderBytes n (o .tariff) demandsOf) demands-count
+        ∙ ap₂ (λ (xs ys : List ℕ). xs ++ ys) words-read (demands-read (tracePart bs) (o .periods) part part-length ∙ part-read bs o e)
+        ∙ take-append-drop traceOffset bs
+
+    pub read-write : (room : ℕ) → length bs ≤ room → writeOrder room (o .tariff) demandsOf ≡ figures bs
+    read-write room l =
+        let p = subst PeriodsRange (sym demands-count) range in
+        let t = subst TariffRange (ap (λ (x : Order). x .tariff) (sym (read-rules bs o e .1))) (rules .tariff) in
+        let n = length-order (length demandsOf) (o .tariff) demandsOf in
+        write-figures room (o .tariff) demandsOf (periods-ok _ p) (tariff-ok _ t) (le-leb (orderLength (length demandsOf)) room (omega (arith, ap length bytes-read, n))) ∙ ap figures bytes-read

@@ -16,6 +16,7 @@ use Rattle.files.specs.declared.plans.PlanFigures.{PlanFigures}
 use Rattle.files.specs.declared.plans.PlanAnswer.{PlanAnswer}
 use Rattle.files.specs.declared.plans.PlanAnswer.the-variants.{Read, Refused}
 use Rattle.files.specs.Number.{bytesOf, numberAt, bytesOfAll, itemsAt}
+use Rattle.files.specs.Header.{placedAs}
 
 -- kind = 2
 abbrev pub planKind : ℕ
@@ -79,10 +80,6 @@ recordAt bs at = recordOf (numberAt 4 bs at) (numberAt 4 bs (at + 4)) (numberAt 
 abbrev pub recordsIn : ℕ → List ℕ → Cutting
 recordsIn k bs = itemsAt (recordAt bs) 12 k bucketsOffset
 
--- Each offset and the length are what the counts give, and the bytes are that many.
-abbrev pub planPlaced : ℕ → List ℕ → Bool
-planPlaced k bs = eqb (numberAt 4 bs 12) costOffset && eqb (numberAt 4 bs 16) bucketsOffset && eqb (numberAt 4 bs 20) (planLength k) && eqb (length bs) (planLength k)
-
 -- 1: under 24 bytes; 2: the kind; 3: T and k; 4: offsets and lengths; 5: the cost and the records.
 unfoldable pub planIn : List ℕ → Answer Recorded
 planIn bs =
@@ -92,7 +89,7 @@ planIn bs =
     weigh (leb costOffset (length bs)) 1
     (weigh (eqb (numberAt 4 bs 0) planKind) 2
     (weigh (countsOk T k) 3
-    (weigh (planPlaced k bs) 4
+    (weigh (placedAs 12 costOffset bucketsOffset (planLength k) bs) 4
     (weigh (leb cost costLimit) 5
     (weigh (recordsOk T (recordsIn k bs)) 5
     (figures (record { periods = T; cost = cost; buckets = recordsIn k bs })))))))

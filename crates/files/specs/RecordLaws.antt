@@ -1,22 +1,54 @@
--- Bucket records weighed one by one.
+-- Bucket records in their ranges, and weighed one by one.
 -- Assumes nothing.
-use Prim.Native.Nat.{ℕ, _+_, _-_, _*_, _≤_, _<_}
+use Prim.Native.Nat.{ℕ, zero, suc, _+_, _-_, _*_, _≤_, _<_}
 use native.Mathlib.Omega.{arith}
 use native.Mathlib.Nat.{add-zero, zero-add}
-use mathlib.Core.Path.{_≡_, sym, ap, ap₂, _∙_}
+use mathlib.Core.Path.{_≡_, refl, sym, ap, ap₂, _∙_}
 use mathlib.Core.Bool.{Bool, true, _&&_, and-true, and-assoc}
 use mathlib.Core.List.{[], _∷_}
+use borrow.Author.Tests.{eqb-true, eq-eqb}
 use lib.Dec.{eqb}
+use lib.ListN.{length, getD}
 use Rattle.terms.specs.declared.BucketRecord.{BucketRecord}
+use Rattle.terms.specs.Bools.{and-both, both-and}
 use Rattle.terms.specs.Ranges.{recordOk}
+use Rattle.terms.specs.RangeLaws.{RecordRange, record-range, record-ok}
 use Rattle.terms.specs.Records.{Cutting, runLength, total}
 use Rattle.files.specs.Number.{itemsAt}
 use Rattle.files.specs.StoreLaws.{items-next, items-none}
-use Rattle.files.specs.Plan.{allOk, recordsOk}
+use Rattle.files.specs.Plan.{allOk, recordOf, recordsOk}
 
 -- The greatest number of 4 bytes.
 abbrev pub wordLimit : ℕ
 wordLimit = 4294967295
+
+-- Stands past the end of a list of records.
+abbrev pub noRecord : BucketRecord
+noRecord = recordOf 0 0 0
+
+-- The records of a plan of T periods in their ranges: each in its own, and the run lengths sum to T.
+pub record RecordsRange (T : ℕ) (xs : Cutting) : Type 0 where
+  pub each : (i : ℕ) → i < length xs → RecordRange (getD xs i noRecord)
+  pub sum : total runLength xs ≡ T
+
+all-range : (xs : Cutting) → allOk xs ≡ true → (i : ℕ) → i < length xs → RecordRange (getD xs i noRecord)
+unfolding allOk
+all-range [] h i l = absurd (omega arith)
+all-range (x ∷ xs) h zero l = record-range x (and-both (recordOk x) (allOk xs) h .0)
+all-range (x ∷ xs) h (suc i) l = all-range xs (and-both (recordOk x) (allOk xs) h .1) i (omega arith)
+
+all-ok : (xs : Cutting) → ((i : ℕ) → i < length xs → RecordRange (getD xs i noRecord)) → allOk xs ≡ true
+unfolding allOk
+all-ok [] h = refl
+all-ok (x ∷ xs) h = both-and (record-ok x (h 0 (omega arith))) (all-ok xs (λ i l. h (suc i) (omega arith)))
+
+pub records-range : (T : ℕ) (xs : Cutting) → recordsOk T xs ≡ true → RecordsRange T xs
+records-range T xs h =
+    let k = and-both (allOk xs) (eqb (total runLength xs) T) h in
+    record { each = all-range xs (k .0); sum = eqb-true _ _ (k .1) }
+
+pub records-ok : (T : ℕ) (xs : Cutting) → RecordsRange T xs → recordsOk T xs ≡ true
+records-ok T xs r = both-and (all-ok xs (r .each)) (eq-eqb _ _ (r .sum))
 
 -- The k records that `read` gives, `width` apart from `start` on.
 module _ (read : ℕ → BucketRecord) (width k start : ℕ) where

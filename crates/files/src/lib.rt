@@ -1,6 +1,7 @@
 // The two files, order and plan, read and written. A writer fills the front of the lent bytes;
 // a refusal changes nothing that is lent.
 mod fills;
+mod headers;
 mod numbers;
 mod orders;
 mod plans;

@@ -1,5 +1,6 @@
 // The order file: read, its trace's part handed back, and written.
 use crate::fills::FillAnswer;
+use crate::headers::placed;
 use crate::numbers::put_words;
 use crate::numbers::word_at;
 use crate::traces::put_demands;
@@ -21,7 +22,7 @@ ghost use Rattle.terms.specs.Lent.{filled};
 ghost use Rattle.terms.specs.RangeLaws.{PeriodsRange};
 ghost use Rattle.files.specs.Fill.{fillSays};
 ghost use Rattle.files.specs.Number.{bytesOf, bytesOfAll};
-ghost use Rattle.files.specs.Order.{orderPlaced, orderSays, orderWords, readOrder, tariffIn, tracePart, writeOrder};
+ghost use Rattle.files.specs.Order.{orderSays, orderWords, readOrder, tariffIn, tracePart, writeOrder};
 
 const ORDER_KIND: u32 = 1;
 
@@ -54,7 +55,8 @@ pub fn read_order(bytes: &[u8]) -> OrderAnswer
     if !periods_in_range(periods as usize) {
         return OrderAnswer::Refused(Refusal::Periods);
     }
-    if !placed(bytes, periods) {
+    let length = TRACE_OFFSET + 2 * periods as usize;
+    if !placed(bytes, 8, TARIFF_OFFSET, TRACE_OFFSET, length) {
         return OrderAnswer::Refused(Refusal::Misplaced);
     }
     let tariff = tariff_in(bytes);
@@ -62,19 +64,6 @@ pub fn read_order(bytes: &[u8]) -> OrderAnswer
         return OrderAnswer::Refused(Refusal::Figure);
     }
     OrderAnswer::Read(Order { periods, tariff })
-}
-
-// Whether the offsets and the length are what T gives, and the bytes are that many.
-fn placed(bytes: &[u8], periods: u32) -> bool
-    requires { ⌜ 20 ≤ length (now bytes) ⌝ }
-    requires { ⌜ PeriodsRange periods ⌝ }
-    ensures { λ r. ⌜ r ≡ orderPlaced periods (now (bytes .entry)) ⌝ }
-{
-    let length = TRACE_OFFSET + 2 * periods as usize;
-    (word_at(bytes, 8) as usize == TARIFF_OFFSET)
-        & (word_at(bytes, 12) as usize == TRACE_OFFSET)
-        & (word_at(bytes, 16) as usize == length)
-        & (bytes.len() == length)
 }
 
 // The seven figures of the tariff.

@@ -1,5 +1,6 @@
 // The plan file: read and written.
 use crate::fills::FillAnswer;
+use crate::headers::placed;
 use crate::numbers::number_at;
 use crate::numbers::put_number;
 use crate::numbers::put_words;
@@ -21,7 +22,7 @@ ghost use Rattle.terms.specs.Lent.{filled, recorded, roomOf};
 ghost use Rattle.terms.specs.Records.{runDepth, runLength, runRate};
 ghost use Rattle.files.specs.Fill.{fillSays};
 ghost use Rattle.files.specs.Number.{bytesOf, bytesOfAll};
-ghost use Rattle.files.specs.Plan.{bucketsOf, countsOk, figuresOf, planIn, planPlaced, planSays, planWords, readPlan, writePlan};
+ghost use Rattle.files.specs.Plan.{bucketsOf, countsOk, figuresOf, planIn, planSays, planWords, readPlan, writePlan};
 
 const PLAN_KIND: u32 = 2;
 
@@ -83,7 +84,8 @@ fn plan_in(bytes: &[u8]) -> PlanAnswer
     if !counts_in_range(periods, buckets) {
         return PlanAnswer::Refused(Refusal::Periods);
     }
-    if !placed(bytes, buckets) {
+    let length = BUCKETS_OFFSET + 12 * buckets as usize;
+    if !placed(bytes, 12, COST_OFFSET, BUCKETS_OFFSET, length) {
         return PlanAnswer::Refused(Refusal::Misplaced);
     }
     let cost = number_at(bytes, COST_OFFSET, 8);
@@ -105,20 +107,6 @@ fn counts_in_range(periods: u32, buckets: u32) -> bool
     ensures { λ r. ⌜ r ≡ countsOk periods buckets ⌝ }
 {
     periods_in_range(periods as usize) & (1 <= buckets) & (buckets <= periods)
-}
-
-// Whether the offsets and the length are what the number of buckets gives, and the bytes are that
-// many.
-fn placed(bytes: &[u8], buckets: u32) -> bool
-    requires { ⌜ 24 ≤ length (now bytes) ⌝ }
-    requires { ⌜ buckets ≤ 512 ⌝ }
-    ensures { λ r. ⌜ r ≡ planPlaced buckets (now (bytes .entry)) ⌝ }
-{
-    let length = BUCKETS_OFFSET + 12 * buckets as usize;
-    (word_at(bytes, 12) as usize == COST_OFFSET)
-        & (word_at(bytes, 16) as usize == BUCKETS_OFFSET)
-        & (word_at(bytes, 20) as usize == length)
-        & (bytes.len() == length)
 }
 
 // Writes a plan into the front of the bytes, its records from the front of the lists, and answers

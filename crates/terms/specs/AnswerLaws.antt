@@ -2,11 +2,11 @@
 -- Assumes nothing.
 use Prim.Native.Nat.{ℕ}
 use native.Mathlib.Omega.{arith}
-use mathlib.Core.Path.{_≡_, refl, sym}
+use mathlib.Core.Path.{_≡_, refl, sym, ap}
 use mathlib.Core.Bool.{Bool, true, false}
 use borrow.Author.Tests.{eqb-false}
 use lib.Dec.{eqb}
-use Rattle.terms.specs.Answer.{Answer, figures, refused, weigh}
+use Rattle.terms.specs.Answer.{Answer, figures, refused, weigh, onFigures}
 
 pub figures-refused : {A : Type 0} {x : A} {n : ℕ} → figures x ≡ refused n → ⊥
 figures-refused e = let z : _≡_ {A = ℕ} 0 1 = cc in omega arith
@@ -25,3 +25,12 @@ weigh-figures false n rest e = absurd (figures-refused (sym e))
 pub weigh-refused : {A : Type 0} (ok : Bool) (n m : ℕ) (rest : Answer A) → eqb n m ≡ false → weigh ok n rest ≡ refused m → (ok ≡ true) × (rest ≡ refused m)
 weigh-refused true n m rest h e = (refl, e)
 weigh-refused false n m rest h e = absurd (eqb-false n m h (same-refusal e))
+
+-- Other figures worked out from those of an answer mean that it has figures; a refusal is its own.
+pub on-figures : {A B : Type 0} (f : A → B) (a : Answer A) {y : B} → onFigures f a ≡ figures y → (x : A) × (a ≡ figures x) × (f x ≡ y)
+on-figures f (figures x) e = (x, refl, same-figures e)
+on-figures f (refused n) e = absurd (figures-refused (sym e))
+
+pub on-refused : {A B : Type 0} (f : A → B) (a : Answer A) {n : ℕ} → onFigures f a ≡ refused n → a ≡ refused n
+on-refused f (figures x) e = absurd (figures-refused e)
+on-refused f (refused m) e = ap refused (same-refusal e)

@@ -8,9 +8,10 @@ use borrow.Author.Tests.{leb-true, le-leb}
 use lib.Dec.{leb}
 use Rattle.terms.specs.declared.Factor.{Factor}
 use Rattle.terms.specs.declared.Bucket.{Bucket}
+use Rattle.terms.specs.declared.BucketRecord.{BucketRecord}
 use Rattle.terms.specs.declared.Tariff.{Tariff}
 use Rattle.terms.specs.Limits.{rateLimit, depthLimit, priceLimit, feeLimit, partsLimit, traceLimit}
-use Rattle.terms.specs.Ranges.{factorOk, bucketOk, freshOk, tariffOk, periodsOk}
+use Rattle.terms.specs.Ranges.{factorOk, bucketOk, freshOk, recordOk, tariffOk, periodsOk}
 use Rattle.terms.specs.Bools.{and-both, and-three, and-six, both-and}
 
 pub record FactorRange (f : Factor) : Type 0 where
@@ -35,6 +36,18 @@ bucket-range b h = let k = and-both (leb (b .rate .0) rateLimit) (leb (b .depth 
 
 pub bucket-ok : (b : Bucket) → BucketRange b → bucketOk b ≡ true
 bucket-ok b k = both-and (le-leb _ _ (k .rates)) (le-leb _ _ (k .depths))
+
+pub record RecordRange (x : BucketRecord) : Type 0 where
+  pub some : 1 ≤ x .periods
+  pub bucket : BucketRange (x .bucket)
+
+pub record-range : (x : BucketRecord) → recordOk x ≡ true → RecordRange x
+record-range x h =
+    let k = and-both (leb 1 (x .periods)) (bucketOk (x .bucket)) h in
+    record { some = leb-true _ _ (k .0); bucket = bucket-range (x .bucket) (k .1) }
+
+pub record-ok : (x : BucketRecord) → RecordRange x → recordOk x ≡ true
+record-ok x k = both-and (le-leb _ _ (k .some)) (bucket-ok (x .bucket) (k .bucket))
 
 pub record FreshRange (b : Bucket) (f : Factor) : Type 0 where
   pub bucket : BucketRange b

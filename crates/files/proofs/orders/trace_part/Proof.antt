@@ -7,7 +7,7 @@ use lib.ListN.{length}
 use Rattle.terms.specs.Answer.{figures}
 use Rattle.files.specs.declared.orders.Order.{Order}
 use Rattle.files.specs.Order.{orderSays, readOrder, traceOffset}
-use Rattle.files.specs.OrderLaws.{read-rules, part-read, part-refused}
+use Rattle.files.specs.OrderRules.{read-rules, part-read, part-refused}
 use borrow.Author.Needs.{needs}
 use Rattle.files.proofs.orders.trace_part.Statement.{statement}
 use Rattle.files.proofs.orders.trace_part.Tie as tie

@@ -9,7 +9,7 @@ use Rattle.terms.specs.Ranges.{periodsOk, tariffOk}
 use Rattle.terms.specs.RangeLaws.{periods-range}
 use Rattle.files.specs.Number.{bytesOf, bytesOfAll}
 use Rattle.files.specs.Order.{orderBytes, orderWords, traceOffset}
-use Rattle.files.specs.OrderLaws.{length-header, length-order, write-periods, write-figure, write-room, write-figures}
+use Rattle.files.specs.OrderRules.{length-header, length-order, write-periods, write-figure, write-room, write-figures}
 use Rattle.files.specs.StoreLaws.{sets-both}
 use Rattle.files.specs.FillLaws.{fill-refused, fill-stored}
 use borrow.Author.Needs.{needs}

@@ -7,7 +7,7 @@ use borrow.Author.Needs.{needs}
 use lib.ListN.{length, set}
 use lib.Seq.{sets}
 use Rattle.files.specs.Number.{itemsAt, numberAt}
-use Rattle.files.specs.OrderLaws.{length-demands}
+use Rattle.files.specs.OrderRules.{length-demands}
 use Rattle.files.specs.Order.{demandsIn}
 use Rattle.files.specs.StoreLaws.{Storing, none-stored, one-stored, all-stored, items-next, items-none}
 use Rattle.files.proofs.traces.load_demands.Statement.{statement}

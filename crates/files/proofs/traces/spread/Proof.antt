@@ -6,7 +6,7 @@ use borrow.Author.Tests.{le-leb, lt-leb}
 use lib.ListN.{length}
 use Rattle.terms.specs.Bools.{check-passed, check-failed}
 use Rattle.files.specs.Order.{demandsIn, partOk}
-use Rattle.files.specs.OrderLaws.{length-demands, spread-odd, spread-full, spread-figures}
+use Rattle.files.specs.OrderRules.{length-demands, spread-odd, spread-full, spread-figures}
 use Rattle.files.specs.FillLaws.{fill-refused, fill-stored}
 use borrow.Author.Needs.{needs}
 use Rattle.files.proofs.traces.spread.Statement.{statement}

@@ -1,13 +1,7 @@
 -- Each test is the definition's, on the numbers that are read.
 use borrow.Author.Needs.{needs}
-use Rattle.files.proofs.orders.placed.Statement.{statement}
-use Rattle.files.proofs.orders.placed.Tie as tie
-
-mul-length : tie.Need-mul-length
-mul-length c = search needs
-
-add-length : tie.Need-add-length
-add-length c = search needs
+use Rattle.files.proofs.headers.placed.Statement.{statement}
+use Rattle.files.proofs.headers.placed.Tie as tie
 
 word-at-requires : tie.Need-word-at-requires
 word-at-requires c κs = search needs
@@ -15,11 +9,17 @@ word-at-requires c κs = search needs
 cast-result : tie.Need-cast-result
 cast-result c = search needs
 
+add-word-at : tie.Need-add-word-at
+add-word-at c = search needs
+
 word-at-requires-2 : tie.Need-word-at-requires-2
 word-at-requires-2 c κs = search needs
 
 cast-result-2 : tie.Need-cast-result-2
 cast-result-2 c = search needs
+
+add-word-at-2 : tie.Need-add-word-at-2
+add-word-at-2 c = search needs
 
 word-at-requires-3 : tie.Need-word-at-requires-3
 word-at-requires-3 c κs = search needs
@@ -34,12 +34,12 @@ pub placed-spec : {M : Type 1} → statement M
 placed-spec =
     tie.close
     (tie.spec
-    mul-length
-    add-length
     word-at-requires
     cast-result
+    add-word-at
     word-at-requires-2
     cast-result-2
+    add-word-at-2
     word-at-requires-3
     cast-result-3
     returns)

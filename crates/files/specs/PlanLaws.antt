@@ -1,0 +1,2 @@
+-- The plan file there and back.
+-- Assumes nothing.
