@@ -1,18 +1,18 @@
 -- The order file there and back: a written order reads back as the same figures and spreads to the same demands, and any
 -- bytes that are read are what writing those figures gives.
 -- Assumes nothing.
-use Prim.Native.Nat.{ℕ, zero, suc, _+_, _*_, _/_, _%_, _^_, _≤_, _<_}
+use Prim.Native.Nat.{ℕ, _+_, _*_, _/_, _%_, _^_, _≤_, _<_}
 use native.Mathlib.Omega.{arith}
-use native.Mathlib.Nat.{mul-div-right, mul-mod-right, zero-lt-suc, le-trans}
+use native.Mathlib.Nat.{mul-div-right, mul-mod-right, zero-lt-suc}
 use mathlib.Core.Path.{_≡_, refl, sym, ap, ap₂, subst, _∙_}
 use mathlib.Core.Bool.{true}
 use mathlib.Core.List.{List, [], _∷_, _++_, append-nil}
-use borrow.Author.Tests.{leb-true, le-leb, eq-eqb}
+use borrow.Author.Tests.{le-leb, eq-eqb}
 use lib.Dec.{leb}
-use lib.ListN.{length, take, drop, getD, length-drop, take-append-drop}
+use lib.ListN.{length, take, getD, length-drop, take-append-drop}
 use lib.Seq.{drop-at, take-all}
 use Rattle.terms.specs.declared.Tariff.{Tariff}
-use Rattle.terms.specs.Answer.{Answer, figures}
+use Rattle.terms.specs.Answer.{figures}
 use Rattle.terms.specs.AnswerLaws.{same-figures, weigh-figures}
 use Rattle.terms.specs.Bools.{both-and}
 use Rattle.terms.specs.Ranges.{periodsOk, tariffOk}
@@ -22,7 +22,7 @@ use Rattle.files.specs.Number.{bytesOf, numberAt, bytesOfAll, itemsAt}
 use Rattle.files.specs.NumberLaws.{Fit, Bytes, fit-drop, length-bytes, length-all, number-written, number-read, Each, each-at, items-written, items-read}
 use Rattle.files.specs.HeaderLaws.{Placed}
 use Rattle.files.specs.Order.{orderLength, orderWords, orderBytes, tariffOffset, traceOffset, tariffIn, readOrder, tracePart, partOk, demandsIn, spreadOf, writeOrder}
-use Rattle.files.specs.OrderRules.{OrderRules, orderIn, rules-read, read-rules, part-read, spread-figures, length-header, length-order, length-demands, write-figures}
+use Rattle.files.specs.OrderRules.{OrderRules, rules-read, read-rules, part-read, spread-figures, length-header, length-order, length-demands, write-figures}
 
 -- ---- The words of an order
 

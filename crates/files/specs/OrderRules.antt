@@ -3,11 +3,10 @@
 use Prim.Native.Nat.{ℕ, _+_, _/_, _≤_}
 use mathlib.Core.Path.{_≡_, refl, sym, ap, ap₂, _∙_}
 use mathlib.Core.Bool.{Bool, true, false}
-use mathlib.Core.List.{List, [], append-nil}
+use mathlib.Core.List.{List, []}
 use borrow.Author.Tests.{leb-true, le-leb, eqb-true, eq-eqb}
 use lib.Dec.{leb, eqb}
 use lib.ListN.{length, drop, length-append}
-use lib.Seq.{sets}
 use Rattle.terms.specs.declared.Tariff.{Tariff}
 use Rattle.terms.specs.Answer.{Answer, figures, refused}
 use Rattle.terms.specs.AnswerLaws.{same-figures, weigh-figures}
@@ -18,7 +17,6 @@ use Rattle.files.specs.Number.{bytesOf, numberAt, bytesOfAll}
 use Rattle.files.specs.Header.{placedAs}
 use Rattle.files.specs.HeaderLaws.{Placed, placed-range, placed-ok}
 use Rattle.files.specs.NumberLaws.{length-items, length-bytes, length-all}
-use Rattle.files.specs.StoreLaws.{none-stored, some-stored, all-stored}
 use Rattle.files.specs.Order.{orderKind, tariffOffset, traceOffset, orderLength, tariffIn, readOrder, partOf, tracePart, partOk, demandsIn, spreadOf, orderWords, orderBytes, writeOrder}
 
 -- ---- Reading, rule by rule

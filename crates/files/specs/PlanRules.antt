@@ -1,6 +1,6 @@
 -- The plan file rule by rule: which refusal each broken rule gives, and that a plan that breaks none is read.
 -- Assumes nothing.
-use Prim.Native.Nat.{ℕ, _+_, _*_, _≤_}
+use Prim.Native.Nat.{ℕ, _+_, _≤_}
 use native.Mathlib.Omega.{arith}
 use mathlib.Core.Path.{_≡_, refl, sym, ap, ap₂, _∙_}
 use mathlib.Core.Bool.{Bool, true, false}
@@ -150,6 +150,10 @@ is-plan bs y e =
         sym (length-items _ 12 (numberAt 4 bs 8) bucketsOffset) ∙ ap (λ (x : Recorded). length (x .buckets)) (sym (r .1)) ∙ ap (λ (z : PlanFigures). z .buckets) (f .2) in
     record { is-read = f .1 ∙ ap figures (r .1); is-count = n; bytes = r .0 .placed .bytes ∙ ap planLength n }
 
+-- A plan that is read fits lists that have room for its records.
+pub read-fits : (room : ℕ) (bs : List ℕ) (x : Recorded) → planIn bs ≡ figures x → length (x .buckets) ≤ room → readPlan room bs ≡ figures x
+read-fits room bs x e l = ap (fitting room) e ∙ ap (λ (ok : Bool). weigh ok 6 (figures x)) (le-leb _ _ l)
+
 module _ (bs runs rates depths : List ℕ) where
   abbrev room : ℕ
   room = roomOf runs rates depths
@@ -174,7 +178,7 @@ module _ (bs runs rates depths : List ℕ) where
 
     module _ (h : leb (y .buckets) room ≡ true) where
       fits : readPlan room bs ≡ figures (recordedIn bs)
-      fits = ap (fitting room) (p .is-read) ∙ ap (λ (ok : Bool). weigh ok 6 (figures (recordedIn bs))) (ap (λ (n : ℕ). leb n room) count ∙ h)
+      fits = read-fits room bs (recordedIn bs) (p .is-read) (omega (arith, count, leb-true (y .buckets) room h))
 
       loaded : (figure : BucketRecord → ℕ) (old new : List ℕ) → y .buckets ≤ length old → new ≡ sets old 0 (map figure (recordsIn (y .buckets) bs)) → new ≡ recorded figure (bucketsOf (readPlan room bs)) old
       loaded figure old new l e =

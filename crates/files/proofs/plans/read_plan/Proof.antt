@@ -5,7 +5,7 @@ use mathlib.Core.Bool.{true}
 use borrow.Author.Tests.{leb-true, not-true, not-false}
 use lib.Dec.{leb}
 use lib.ListN.{length}
-use Rattle.terms.specs.Answer.{figures, refused}
+use Rattle.terms.specs.Answer.{figures}
 use Rattle.terms.specs.AnswerLaws.{on-refused}
 use Rattle.terms.specs.Lent.{roomOf}
 use Rattle.terms.specs.LentLaws.{room-each}

@@ -2,13 +2,13 @@
 use Prim.Native.Nat.{ℕ, _+_, _-_, _*_, _≤_, _<_}
 use native.Mathlib.Omega.{arith}
 use mathlib.Core.Path.{_≡_, sym, ap, subst, _∙_}
-use mathlib.Core.List.{List, [], _∷_, map}
+use mathlib.Core.List.{List, _∷_, map}
 use borrow.Author.Needs.{needs}
 use lib.ListN.{length, set}
 use lib.Seq.{sets}
 use Rattle.terms.specs.declared.BucketRecord.{BucketRecord}
 use Rattle.terms.specs.LentLaws.{room-parts}
-use Rattle.terms.specs.Records.{Cutting, runLength, runRate, runDepth}
+use Rattle.terms.specs.Records.{runLength, runRate, runDepth}
 use Rattle.files.specs.Number.{itemsAt}
 use Rattle.files.specs.Plan.{bucketsOffset, recordAt, recordsIn}
 use Rattle.files.specs.StoreLaws.{Storing, none-stored, one-stored, all-stored, items-next, items-none}

@@ -2,14 +2,14 @@
 use Prim.Native.Nat.{ℕ, _+_, _-_, _*_, _≤_, _<_}
 use native.Mathlib.Omega.{arith}
 use mathlib.Core.Path.{_≡_, ap, subst}
-use mathlib.Core.List.{List, [], _∷_, _++_}
+use mathlib.Core.List.{List, [], _++_}
 use borrow.Author.Needs.{needs}
 use lib.ListN.{length}
 use lib.Seq.{sets}
 use Rattle.terms.specs.LentLaws.{room-parts}
 use Rattle.files.specs.Number.{bytesOf, bytesOfAll, itemsAt}
 use Rattle.files.specs.NumberLaws.{length-bytes, length-all}
-use Rattle.files.specs.Plan.{listed, recordBytes, recordsOf}
+use Rattle.files.specs.Plan.{listed, recordBytes}
 use Rattle.files.specs.StoreLaws.{Storing, none-stored, some-stored, all-stored, items-next, items-none}
 use Rattle.files.proofs.records.put_records.Statement.{statement}
 use Rattle.files.proofs.records.put_records.Tie as tie

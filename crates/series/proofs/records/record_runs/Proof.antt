@@ -1,5 +1,5 @@
 -- After k turns the first k records are stored, and the best cutting from the period reached on is what follows them.
-use Prim.Native.Nat.{ℕ, _+_, _-_, _≤_, _<_, min}
+use Prim.Native.Nat.{ℕ, _+_, _-_, _≤_, _<_}
 use Rattle.series.specs.Cutting.{bests}
 use Rattle.series.specs.OutlineLaws.{carried-count}
 use Rattle.series.specs.RecordLaws.{Firsts, NextRun, Stored, noRecord, next-run, stored-none, stored-next, stored-all}
