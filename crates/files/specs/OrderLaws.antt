@@ -158,8 +158,8 @@ header-read : (bs : List ℕ) → OrderRules bs → orderWords (numberAt 4 bs 4)
 unfolding itemsAt
 header-read bs r =
     let with : ℕ → ℕ → ℕ → ℕ → List ℕ = λ kind first second size.
-            kind ∷ numberAt 4 bs 4 ∷ first ∷ second ∷ size
-            ∷ numberAt 4 bs 20 ∷ numberAt 4 bs 24 ∷ numberAt 4 bs 28 ∷ numberAt 4 bs 32 ∷ numberAt 4 bs 36 ∷ numberAt 4 bs 40 ∷ numberAt 4 bs 44 ∷ [] in
+    kind ∷ numberAt 4 bs 4 ∷ first ∷ second ∷ size
+    ∷ numberAt 4 bs 20 ∷ numberAt 4 bs 24 ∷ numberAt 4 bs 28 ∷ numberAt 4 bs 32 ∷ numberAt 4 bs 36 ∷ numberAt 4 bs 40 ∷ numberAt 4 bs 44 ∷ [] in
     ap₂ (λ (kind first : ℕ). with kind first traceOffset (orderLength (numberAt 4 bs 4))) (sym (r .kind)) (sym (r .placed .first-offset))
     ∙ ap₂ (λ (second size : ℕ). with (numberAt 4 bs 0) (numberAt 4 bs 8) second size) (sym (r .placed .second-offset)) (sym (r .placed .file-length))
 

@@ -102,6 +102,10 @@ fitting room (refused n) = refused n
 abbrev pub readPlan : ℕ → List ℕ → Answer Recorded
 readPlan room bs = fitting room (planIn bs)
 
+-- What reading into three lent lists gives.
+abbrev pub readInto : List ℕ → List ℕ → List ℕ → List ℕ → Answer Recorded
+readInto bs runs rates depths = readPlan (roomOf runs rates depths) bs
+
 -- The figures that are answered, and the records that fill the lists.
 abbrev pub figuresOf : Answer Recorded → Answer PlanFigures
 figuresOf = onFigures (λ x. record { periods = x .periods; buckets = length (x .buckets); cost = x .cost })

@@ -167,13 +167,13 @@ bytes-read bs h r =
     let k = numberAt 4 bs 8 in
     let n = r .placed .bytes in
     let words : bytesOfAll (bytesOf 4) (planWords (numberAt 4 bs 4) (length (bucketsIn bs))) ≡ take 24 bs =
-            ap (λ (m : ℕ). bytesOfAll (bytesOf 4) (planWords (numberAt 4 bs 4) m)) (length-items (recordAt bs) 12 k bucketsOffset)
-            ∙ ap (bytesOfAll (bytesOf 4)) (header-read bs r)
-            ∙ items-read (bytesOf 4) 4 (numberAt 4 bs) bs (λ at l. number-read 4 bs at h l) 6 0 (omega (arith, n)) in
+    ap (λ (m : ℕ). bytesOfAll (bytesOf 4) (planWords (numberAt 4 bs 4) m)) (length-items (recordAt bs) 12 k bucketsOffset)
+    ∙ ap (bytesOfAll (bytesOf 4)) (header-read bs r)
+    ∙ items-read (bytesOf 4) 4 (numberAt 4 bs) bs (λ at l. number-read 4 bs at h l) 6 0 (omega (arith, n)) in
     let cost : bytesOf 8 (numberAt 8 bs costOffset) ≡ take 8 (drop 24 bs) = number-read 8 bs costOffset h (omega (arith, n)) in
     let records : bytesOfAll recordBytes (bucketsIn bs) ≡ drop 32 bs =
-            items-read recordBytes 12 (recordAt bs) bs (λ at l. record-read bs at h l) k bucketsOffset (omega (arith, n))
-            ∙ take-all (12 * k) (drop 32 bs) (omega (arith, n, length-drop 32 bs)) in
+    items-read recordBytes 12 (recordAt bs) bs (λ at l. record-read bs at h l) k bucketsOffset (omega (arith, n))
+    ∙ take-all (12 * k) (drop 32 bs) (omega (arith, n, length-drop 32 bs)) in
     ap₂ (λ (xs ys : List ℕ). xs ++ ys) (ap₂ (λ (xs ys : List ℕ). xs ++ ys) words cost ∙ sym (take-add 24 8 bs)) records
     ∙ take-append-drop 32 bs
 
@@ -219,6 +219,6 @@ module _ (xs : Cutting) (runs rates depths : List ℕ) where
       let n = length-items held 1 (length xs) 0 in
       ext-getD noRecord (itemsAt held 1 (length xs) 0) xs n
       (λ i l.
-          let m : i < length xs = omega (arith, n) in
-          let e : 0 + 1 * i ≡ i = omega arith in
-          item-at held 1 (length xs) 0 i noRecord m ∙ ap held e ∙ record-held i m)
+      let m : i < length xs = omega (arith, n) in
+      let e : 0 + 1 * i ≡ i = omega arith in
+      item-at held 1 (length xs) 0 i noRecord m ∙ ap held e ∙ record-held i m)

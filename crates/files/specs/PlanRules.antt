@@ -147,7 +147,7 @@ is-plan bs y e =
     let f = on-figures (λ x. record { periods = x .periods; buckets = length (x .buckets); cost = x .cost }) (planIn bs) (sym e) in
     let r = read-rules bs (f .0) (f .1) in
     let n : numberAt 4 bs 8 ≡ y .buckets =
-        sym (length-items _ 12 (numberAt 4 bs 8) bucketsOffset) ∙ ap (λ (x : Recorded). length (x .buckets)) (sym (r .1)) ∙ ap (λ (z : PlanFigures). z .buckets) (f .2) in
+    sym (length-items _ 12 (numberAt 4 bs 8) bucketsOffset) ∙ ap (λ (x : Recorded). length (x .buckets)) (sym (r .1)) ∙ ap (λ (z : PlanFigures). z .buckets) (f .2) in
     record { is-read = f .1 ∙ ap figures (r .1); is-count = n; bytes = r .0 .placed .bytes ∙ ap planLength n }
 
 -- A plan that is read fits lists that have room for its records.

@@ -18,11 +18,11 @@ ghost use mathlib.Core.List.{_++_};
 ghost use lib.ListN.{length};
 ghost use lib.Seq.{sets};
 ghost use Rattle.terms.specs.Answer.{onFigures};
-ghost use Rattle.terms.specs.Lent.{filled, recorded, roomOf};
+ghost use Rattle.terms.specs.Lent.{filled, recorded};
 ghost use Rattle.terms.specs.Records.{runDepth, runLength, runRate};
 ghost use Rattle.files.specs.Fill.{fillSays};
 ghost use Rattle.files.specs.Number.{bytesOf, bytesOfAll};
-ghost use Rattle.files.specs.Plan.{bucketsOf, countsOk, figuresOf, planIn, planSays, planWords, readPlan, writePlan};
+ghost use Rattle.files.specs.Plan.{bucketsOf, countsOk, figuresOf, planIn, planSays, planWords, readInto, writePlan};
 
 const PLAN_KIND: u32 = 2;
 
@@ -51,10 +51,10 @@ pub fn read_plan(
     rates: &mut [u32],
     depths: &mut [u32],
 ) -> PlanAnswer
-    ensures { λ r. ⌜ planSays r ≡ figuresOf (readPlan (roomOf (now (runs .entry)) (now (rates .entry)) (now (depths .entry))) (now (bytes .entry))) ⌝ }
-    ensures { λ _. ⌜ now (runs .exit) ≡ recorded runLength (bucketsOf (readPlan (roomOf (now (runs .entry)) (now (rates .entry)) (now (depths .entry))) (now (bytes .entry)))) (now (runs .entry)) ⌝ }
-    ensures { λ _. ⌜ now (rates .exit) ≡ recorded runRate (bucketsOf (readPlan (roomOf (now (runs .entry)) (now (rates .entry)) (now (depths .entry))) (now (bytes .entry)))) (now (rates .entry)) ⌝ }
-    ensures { λ _. ⌜ now (depths .exit) ≡ recorded runDepth (bucketsOf (readPlan (roomOf (now (runs .entry)) (now (rates .entry)) (now (depths .entry))) (now (bytes .entry)))) (now (depths .entry)) ⌝ }
+    ensures { λ r. ⌜ planSays r ≡ figuresOf (readInto (now (bytes .entry)) (now (runs .entry)) (now (rates .entry)) (now (depths .entry))) ⌝ }
+    ensures { λ _. ⌜ now (runs .exit) ≡ recorded runLength (bucketsOf (readInto (now (bytes .entry)) (now (runs .entry)) (now (rates .entry)) (now (depths .entry)))) (now (runs .entry)) ⌝ }
+    ensures { λ _. ⌜ now (rates .exit) ≡ recorded runRate (bucketsOf (readInto (now (bytes .entry)) (now (runs .entry)) (now (rates .entry)) (now (depths .entry)))) (now (rates .entry)) ⌝ }
+    ensures { λ _. ⌜ now (depths .exit) ≡ recorded runDepth (bucketsOf (readInto (now (bytes .entry)) (now (runs .entry)) (now (rates .entry)) (now (depths .entry)))) (now (depths .entry)) ⌝ }
 {
     let answer = plan_in(bytes);
     let PlanAnswer::Read(plan) = answer else {

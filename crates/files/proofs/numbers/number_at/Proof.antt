@@ -37,7 +37,7 @@ module _ (bs : List ℕ) (at width value k : ℕ) (r : Reading bs at width value
       let e : width - (k - 1) ≡ suc w = omega (arith, r .few) in
       let f : at + (k - 1) + 1 ≡ at + k = omega arith in
       let n : numberAt (suc w) bs (at + (k - 1)) ≡ v + 256 * value =
-          number-next w bs (at + (k - 1)) (omega (arith, r .few)) ∙ ap (λ (x : ℕ). v + 256 * numberAt w bs x) f ∙ ap (λ (x : ℕ). v + 256 * x) (sym (r .is)) in
+      number-next w bs (at + (k - 1)) (omega (arith, r .few)) ∙ ap (λ (x : ℕ). v + 256 * numberAt w bs x) f ∙ ap (λ (x : ℕ). v + 256 * x) (sym (r .is)) in
       let p : 256 ^ suc w ≡ 256 ^ w * 256 = pow-suc 256 w in
       let q : (value + 1) * 256 ≤ 256 ^ w * 256 = mul-le-mul (omega (arith, r .below)) (le-refl 256) in
       let o : value * 256 + v < 256 ^ suc w = omega arith in

@@ -32,7 +32,7 @@ begin : (bs : List ℕ) (k : ℕ) (runs rates depths : List ℕ) → Loading bs 
 begin bs k runs rates depths =
     let e : k ≡ k - 0 = omega arith in
     let none : (figure : BucketRecord → ℕ) (old : List ℕ) → Stored figure bs k old old bucketsOffset 0 =
-        λ figure old. subst (λ (n : ℕ). Storing old 0 (map figure (recordsIn k bs)) old 0 (left figure bs n bucketsOffset)) e (none-stored old 0 _) in
+    λ figure old. subst (λ (n : ℕ). Storing old 0 (map figure (recordsIn k bs)) old 0 (left figure bs n bucketsOffset)) e (none-stored old 0 _) in
     record { place = omega arith; runs-stored = none runLength runs; rates-stored = none runRate rates; depths-stored = none runDepth depths }
 
 module _ (bs : List ℕ) (k at i : ℕ) where
