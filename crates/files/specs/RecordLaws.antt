@@ -14,6 +14,7 @@ use Rattle.terms.specs.Bools.{and-both, both-and}
 use Rattle.terms.specs.Ranges.{recordOk}
 use Rattle.terms.specs.RangeLaws.{RecordRange, record-range, record-ok}
 use Rattle.terms.specs.Records.{Cutting, runLength, total}
+use Rattle.files.specs.declared.records.Tally.{Tally}
 use Rattle.files.specs.Number.{itemsAt}
 use Rattle.files.specs.StoreLaws.{items-next, items-none}
 use Rattle.files.specs.Plan.{allOk, recordOf, recordsOk}
@@ -50,18 +51,22 @@ records-range T xs h =
 pub records-ok : (T : ℕ) (xs : Cutting) → RecordsRange T xs → recordsOk T xs ≡ true
 records-ok T xs r = both-and (all-ok xs (r .each)) (eq-eqb _ _ (r .sum))
 
+-- A tally with one record more.
+abbrev pub pushed : Tally → BucketRecord → Tally
+pushed t x = record { ok = t .ok && recordOk x; sum = t .sum + runLength x }
+
 -- The k records that `read` gives, `width` apart from `start` on.
 module _ (read : ℕ → BucketRecord) (width k start : ℕ) where
   abbrev all : Cutting
   all = itemsAt read width k start
 
-  -- i of them are weighed, whether they are in range and the sum of their run lengths; those from `at` on are left.
-  pub record Weighed (ok : Bool) (sum at i : ℕ) : Type 0 where
-    pub ranges : ok && allOk (itemsAt read width (k - i) at) ≡ allOk all
-    pub lengths : sum + total runLength (itemsAt read width (k - i) at) ≡ total runLength all
-    pub small : sum ≤ wordLimit * i
+  -- i of them are weighed in the tally; those from `at` on are left.
+  pub record Weighed (t : Tally) (at i : ℕ) : Type 0 where
+    pub ranges : t .ok && allOk (itemsAt read width (k - i) at) ≡ allOk all
+    pub lengths : t .sum + total runLength (itemsAt read width (k - i) at) ≡ total runLength all
+    pub small : t .sum ≤ wordLimit * i
 
-  pub none-weighed : Weighed true 0 start 0
+  pub none-weighed : Weighed (record { ok = true; sum = 0 }) start 0
   none-weighed =
       let e : k - 0 ≡ k = omega arith in
       record {
@@ -70,27 +75,28 @@ module _ (read : ℕ → BucketRecord) (width k start : ℕ) where
         small = omega arith;
       }
 
-  module _ {ok : Bool} {sum at i : ℕ} (w : Weighed ok sum at i) where
-    pub one-weighed : i < k → (x : BucketRecord) (b : Bool) → x ≡ read at → b ≡ recordOk x → runLength x ≤ wordLimit → Weighed (ok && b) (sum + runLength x) (at + width) (i + 1)
+  module _ {t : Tally} {at i : ℕ} (w : Weighed t at i) where
+    pub one-weighed : i < k → (x : BucketRecord) (u : Tally) → x ≡ read at → u ≡ pushed t x → u .sum ≤ t .sum + wordLimit → Weighed u (at + width) (i + 1)
     unfolding allOk total
-    one-weighed l x b e f m =
+    one-weighed l x u e f m =
         let rest = itemsAt read width (k - (i + 1)) (at + width) in
         let n : x ∷ rest ≡ itemsAt read width (k - i) at = ap (λ (y : BucketRecord). y ∷ rest) e ∙ sym (items-next read width k i at l) in
-        let s : sum + (runLength x + total runLength rest) ≡ total runLength all = ap (λ (ys : Cutting). sum + total runLength ys) n ∙ w .lengths in
+        let s : t .sum + (runLength x + total runLength rest) ≡ total runLength all = ap (λ (ys : Cutting). t .sum + total runLength ys) n ∙ w .lengths in
+        let v : u .sum ≡ t .sum + runLength x = ap (λ (y : Tally). y .sum) f in
         record {
           ranges =
-              ap (λ (c : Bool). ok && c && allOk rest) f
-              ∙ and-assoc ok (recordOk x) (allOk rest)
-              ∙ ap (λ (ys : Cutting). ok && allOk ys) n
+              ap (λ (y : Tally). y .ok && allOk rest) f
+              ∙ and-assoc (t .ok) (recordOk x) (allOk rest)
+              ∙ ap (λ (ys : Cutting). t .ok && allOk ys) n
               ∙ w .ranges;
           lengths = omega arith;
           small = omega (arith, w .small);
         }
 
-    pub all-weighed : k ≤ i → (T : ℕ) → ok && eqb sum T ≡ recordsOk T all
+    pub all-weighed : k ≤ i → (T : ℕ) → t .ok && eqb (t .sum) T ≡ recordsOk T all
     unfolding allOk total
     all-weighed l T =
         let n : [] ≡ itemsAt read width (k - i) at = sym (items-none read width k i at l) in
-        let o : ok ≡ allOk all = sym (and-true ok) ∙ ap (λ (ys : Cutting). ok && allOk ys) n ∙ w .ranges in
-        let s : sum ≡ total runLength all = sym (add-zero sum) ∙ ap (λ (ys : Cutting). sum + total runLength ys) n ∙ w .lengths in
+        let o : t .ok ≡ allOk all = sym (and-true (t .ok)) ∙ ap (λ (ys : Cutting). t .ok && allOk ys) n ∙ w .ranges in
+        let s : t .sum ≡ total runLength all = sym (add-zero (t .sum)) ∙ ap (λ (ys : Cutting). t .sum + total runLength ys) n ∙ w .lengths in
         ap₂ (λ (b : Bool) (n : ℕ). b && eqb n T) o s

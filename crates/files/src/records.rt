@@ -10,13 +10,16 @@ use terms::Rate;
 use terms::record_in_range;
 ghost use Prim.Native.Nat.{_+_, _*_, _≤_};
 ghost use mathlib.Core.Path.{_≡_};
+ghost use mathlib.Core.Bool.{_&&_};
 ghost use mathlib.Core.List.{map};
+ghost use lib.Dec.{eqb};
 ghost use lib.ListN.{length};
 ghost use lib.Seq.{sets};
 ghost use Rattle.terms.specs.Lent.{roomOf};
 ghost use Rattle.terms.specs.Records.{runDepth, runLength, runRate};
 ghost use Rattle.files.specs.Number.{bytesOfAll};
 ghost use Rattle.files.specs.Plan.{planLength, recordAt, recordBytes, recordOf, recordsIn, recordsOf, recordsOk};
+ghost use Rattle.files.specs.RecordLaws.{pushed, wordLimit};
 
 // The record at a place of a file.
 fn record_at(bytes: &[u8], at: usize) -> BucketRecord
@@ -40,25 +43,49 @@ fn record_of(periods: u32, rate: u32, depth: u32) -> BucketRecord
     BucketRecord { periods, bucket }
 }
 
-// Whether each record of a file is in its range and the run lengths sum to T. The sum of 512
-// numbers of 32 bits needs more than 32.
+// The records weighed so far: whether each is in its range, and the sum of their run lengths, which
+// needs more than 32 bits.
+pub struct Tally {
+    pub ok: bool,
+    pub sum: u64,
+}
+
+impl Tally {
+    fn push(self, x: BucketRecord) -> Self
+        requires { ⌜ self .sum ≤ wordLimit * 512 ⌝ }
+        ensures { λ r. ⌜ r ≡ pushed self x ⌝ }
+        ensures { λ r. ⌜ r .sum ≤ self .sum + wordLimit ⌝ }
+    {
+        Tally {
+            ok: self.ok & record_in_range(x),
+            sum: self.sum + x.periods as u64,
+        }
+    }
+
+    // Whether all are in range and the run lengths sum to T.
+    fn whole(self, periods: u32) -> bool
+        ensures { λ r. ⌜ r ≡ self .ok && eqb (self .sum) periods ⌝ }
+    {
+        self.ok & (self.sum == periods as u64)
+    }
+}
+
+// Whether each record of a file is in its range and the run lengths sum to T.
 pub fn records_in_file(bytes: &[u8], periods: u32, buckets: usize) -> bool
     requires { ⌜ planLength buckets ≤ length (now bytes) ⌝ }
     requires { ⌜ buckets ≤ 512 ⌝ }
     ensures { λ r. ⌜ r ≡ recordsOk periods (recordsIn buckets (now (bytes .entry))) ⌝ }
 {
-    let mut ok = true;
-    let mut sum: u64 = 0;
+    let mut tally = Tally { ok: true, sum: 0 };
     let mut at = BUCKETS_OFFSET;
     let mut i = 0;
     while i < buckets {
         let x = record_at(bytes, at);
-        ok = ok & record_in_range(x);
-        sum += x.periods as u64;
+        tally = tally.push(x);
         at += 12;
         i += 1;
     }
-    ok & (sum == periods as u64)
+    tally.whole(periods)
 }
 
 // The same of the first records of three lists.
@@ -73,16 +100,14 @@ pub fn records_in_lists(
     requires { ⌜ buckets ≤ 512 ⌝ }
     ensures { λ r. ⌜ r ≡ recordsOk periods (recordsOf buckets (now (runs .entry)) (now (rates .entry)) (now (depths .entry))) ⌝ }
 {
-    let mut ok = true;
-    let mut sum: u64 = 0;
+    let mut tally = Tally { ok: true, sum: 0 };
     let mut i = 0;
     while i < buckets {
         let x = record_of(runs[i], rates[i], depths[i]);
-        ok = ok & record_in_range(x);
-        sum += x.periods as u64;
+        tally = tally.push(x);
         i += 1;
     }
-    ok & (sum == periods as u64)
+    tally.whole(periods)
 }
 
 // Stores the records of a file from the front of three lists on.

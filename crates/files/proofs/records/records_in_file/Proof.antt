@@ -1,24 +1,24 @@
 -- The records from the place reached on are left to be weighed.
 use Prim.Native.Nat.{ℕ, _+_, _-_, _*_}
 use native.Mathlib.Omega.{arith}
-use mathlib.Core.Path.{_≡_}
-use mathlib.Core.Bool.{Bool}
+use mathlib.Core.Path.{_≡_, _∙_}
 use mathlib.Core.List.{List}
 use borrow.Author.Needs.{needs}
+use Rattle.files.specs.declared.records.Tally.{Tally}
 use Rattle.files.specs.Plan.{bucketsOffset, recordAt}
 use Rattle.files.specs.RecordLaws.{Weighed, none-weighed, one-weighed, all-weighed}
 use Rattle.files.proofs.records.records_in_file.Statement.{statement}
 use Rattle.files.proofs.records.records_in_file.Tie as tie
 
-record Weighing (bs : List ℕ) (k : ℕ) (ok : Bool) (sum at i : ℕ) : Type 0 where
+record Weighing (bs : List ℕ) (k : ℕ) (t : Tally) (at i : ℕ) : Type 0 where
   place : at ≡ bucketsOffset + 12 * i
-  weighed : Weighed (recordAt bs) 12 k bucketsOffset ok sum at i
+  weighed : Weighed (recordAt bs) 12 k bucketsOffset t at i
 
 abbrev Inv-loop : tie.InvT-loop
-Inv-loop bytes periods buckets ok₀ sum₀ at₀ i₀ ok sum at i = Weighing bytes buckets ok sum at i
+Inv-loop bytes periods buckets tally₀ at₀ i₀ tally at i = Weighing bytes buckets tally at i
 
 abbrev μ-loop : tie.MeasureT-loop
-μ-loop bytes periods buckets ok₀ sum₀ at₀ i₀ ok sum at i = buckets - i
+μ-loop bytes periods buckets tally₀ at₀ i₀ tally at i = buckets - i
 
 loop-holds : tie.Need-loop-holds Inv-loop μ-loop
 loop-holds c = record { place = omega arith; weighed = none-weighed _ 12 _ bucketsOffset }
@@ -26,17 +26,17 @@ loop-holds c = record { place = omega arith; weighed = none-weighed _ 12 _ bucke
 record-at-requires : tie.Need-record-at-requires Inv-loop μ-loop
 record-at-requires c κs = let s = c .before .before .before in omega (arith, c .before .loop .inv .place, c .loop-test .taken, s .pre .0)
 
-record-in-range-requires : tie.Need-record-in-range-requires Inv-loop μ-loop
-record-in-range-requires c κs = search needs
-
-cast-sum : tie.Need-cast-sum Inv-loop μ-loop
-cast-sum c = search needs
-
-add-sum : tie.Need-add-sum Inv-loop μ-loop
-add-sum c = let i = c .before .before .before in let s = i .before .before .before in let w = i .before .loop .inv .weighed .small in omega (arith, i .loop-test .taken, s .pre .1, c .struct-known .given)
+push-requires : tie.Need-push-requires Inv-loop μ-loop
+push-requires c κs =
+    let i = c .before in
+    let s = i .before .before .before in
+    omega (arith, i .before .loop .inv .weighed .small, i .loop-test .taken, s .pre .1)
 
 add-at : tie.Need-add-at Inv-loop μ-loop
-add-at c = let i = c .before .before .before in let s = i .before .before .before in omega (arith, i .before .loop .inv .place, i .loop-test .taken, s .pre .1)
+add-at c =
+    let i = c .before .before in
+    let s = i .before .before .before in
+    omega (arith, i .before .loop .inv .place, i .loop-test .taken, s .pre .1)
 
 add-i : tie.Need-add-i Inv-loop μ-loop
 add-i c = search needs
@@ -46,15 +46,18 @@ loop-less c = search needs
 
 loop-again : tie.Need-loop-again Inv-loop μ-loop
 loop-again c =
-    let i = c .before .before .before in
+    let i = c .before .before in
     let w = i .before .loop .inv in
     record {
       place = omega (arith, w .place);
-      weighed = one-weighed _ _ _ _ (w .weighed) (i .loop-test .taken) _ _ (c .before .before .record-at .ensures) (c .before .record-in-range .ensures) (omega (arith, c .struct-known .given));
+      weighed = one-weighed _ _ _ _ (w .weighed) (i .loop-test .taken) _ _ (c .before .record-at .ensures) (c .push .ensures .0) (c .push .ensures .1);
     }
 
+whole-requires : tie.Need-whole-requires Inv-loop μ-loop
+whole-requires c κs = search needs
+
 returns : tie.Need-returns Inv-loop μ-loop
-returns c = all-weighed _ _ _ _ (c .before .loop .inv .weighed) (c .loop-test .left) _
+returns c = c .whole .ensures ∙ all-weighed _ _ _ _ (c .before .before .loop .inv .weighed) (c .before .loop-test .left) _
 
 pub records-in-file-spec : {M : Type 1} → statement M
 records-in-file-spec =
@@ -64,11 +67,10 @@ records-in-file-spec =
     μ-loop
     loop-holds
     record-at-requires
-    record-in-range-requires
-    cast-sum
-    add-sum
+    push-requires
     add-at
     add-i
     loop-less
     loop-again
+    whole-requires
     returns)
