@@ -28,7 +28,7 @@ sub-result : tie.Need-sub-result
 sub-result c = omega (arith, begins c)
 
 part-result-start : tie.Need-part-result-start
-part-result-start c = begins c
+part-result-start c = omega (arith, begins c)
 
 part-result-end : tie.Need-part-result-end
 part-result-end c = search needs
