@@ -10,21 +10,25 @@ use lib.ListN.{length, take, drop, getD, length-append, length-drop}
 use lib.Seq.{take-at, drop-append-seam, take-add, drop-cons, drop-drop, getD-drop}
 use Rattle.files.specs.Number.{bytesOf, valueOf, numberAt, bytesOfAll, itemsAt}
 
--- Each number of a list has w bytes. (Past the end of a list `getD` gives 0.)
+-- A number has at most w bytes.
+abbrev pub Within : ℕ → ℕ → Type 0
+Within w n = n < 256 ^ w
+
+-- Each number of a list has. (Past the end of a list `getD` gives 0.)
 pub record Fit (w : ℕ) (ns : List ℕ) : Type 0 where
-  pub each : (i : ℕ) → getD ns i 0 < 256 ^ w
+  pub each : (i : ℕ) → Within w (getD ns i 0)
 
 abbrev pub Bytes : List ℕ → Type 0
 Bytes = Fit 1
 
-pub fit-head : {w n : ℕ} {ns : List ℕ} → Fit w (n ∷ ns) → n < 256 ^ w
+pub fit-head : {w n : ℕ} {ns : List ℕ} → Fit w (n ∷ ns) → Within w n
 fit-head h = h .each 0
 
 pub fit-tail : {w n : ℕ} {ns : List ℕ} → Fit w (n ∷ ns) → Fit w ns
 fit-tail h = record { each = λ i. h .each (suc i) }
 
 pub fit-drop : {w : ℕ} (ns : List ℕ) (k : ℕ) → Fit w ns → Fit w (drop k ns)
-fit-drop {w} ns k h = record { each = λ i. subst (λ (n : ℕ). n < 256 ^ w) (sym (getD-drop k ns i 0)) (h .each (k + i)) }
+fit-drop {w} ns k h = record { each = λ i. subst (Within w) (sym (getD-drop k ns i 0)) (h .each (k + i)) }
 
 pub length-bytes : (w n : ℕ) → length (bytesOf w n) ≡ w
 unfolding bytesOf
@@ -33,7 +37,7 @@ length-bytes (suc w) n = ap suc (length-bytes w (n / 256))
 
 -- ---- One number
 
-pub value-bytes : (w n : ℕ) → n < 256 ^ w → valueOf (bytesOf w n) ≡ n
+pub value-bytes : (w n : ℕ) → Within w n → valueOf (bytesOf w n) ≡ n
 unfolding bytesOf valueOf
 value-bytes zero n h = omega arith
 value-bytes (suc w) n h =
@@ -53,7 +57,7 @@ bytes-value (suc w) (b ∷ bs) h l =
     ∙ ap (λ (x : ℕ). b ∷ bytesOf w x) high
     ∙ ap (λ (ys : List ℕ). b ∷ ys) (bytes-value w bs (fit-tail h) (omega arith))
 
-pub value-fits : (w : ℕ) (bs : List ℕ) → Bytes bs → valueOf (take w bs) < 256 ^ w
+pub value-fits : (w : ℕ) (bs : List ℕ) → Bytes bs → Within w (valueOf (take w bs))
 unfolding valueOf
 value-fits zero bs h = omega arith
 value-fits (suc w) [] h = one-le-pow (suc w) 256 (zero-lt-suc 255)
@@ -65,7 +69,7 @@ value-fits (suc w) (b ∷ bs) h =
     omega arith
 
 -- A number with others before and behind it.
-pub number-written : (w n : ℕ) (before after : List ℕ) → n < 256 ^ w → numberAt w (before ++ bytesOf w n ++ after) (length before) ≡ n
+pub number-written : (w n : ℕ) (before after : List ℕ) → Within w n → numberAt w (before ++ bytesOf w n ++ after) (length before) ≡ n
 number-written w n before after l =
     ap (λ (ys : List ℕ). valueOf (take w ys)) (ap (drop (length before)) (append-assoc before (bytesOf w n) after) ∙ drop-append-seam before (bytesOf w n ++ after))
     ∙ ap valueOf (take-at (bytesOf w n) after w (length-bytes w n))
@@ -74,7 +78,7 @@ number-written w n before after l =
 pub number-read : (w : ℕ) (bs : List ℕ) (at : ℕ) → Bytes bs → at + w ≤ length bs → bytesOf w (numberAt w bs at) ≡ take w (drop at bs)
 number-read w bs at h l = bytes-value w (drop at bs) (fit-drop bs at h) (omega (arith, length-drop at bs))
 
-pub number-fits : (w : ℕ) (bs : List ℕ) (at : ℕ) → Bytes bs → numberAt w bs at < 256 ^ w
+pub number-fits : (w : ℕ) (bs : List ℕ) (at : ℕ) → Bytes bs → Within w (numberAt w bs at)
 number-fits w bs at h = value-fits w (drop at bs) (fit-drop bs at h)
 
 -- A number by its first byte and the rest.
@@ -121,15 +125,18 @@ module _ {A : Type 0} (bytes : A → List ℕ) (width : ℕ) where
         omega (arith, each x, length-all xs)
 
     -- Items that are read back one by one are read back all.
-    module _ (read : List ℕ → ℕ → A) (Ok : A → Type 0) (back : (x : A) → Ok x → (before after : List ℕ) → read (before ++ bytes x ++ after) (length before) ≡ x) where
-      pub items-written : (xs : List A) → Each Ok xs → (before after : List ℕ) → itemsAt (read (before ++ bytesOfAll bytes xs ++ after)) width (length xs) (length before) ≡ xs
+    module _ (read : List ℕ → ℕ → A) (Ok : A → Type 0)
+        (back : (x : A) → Ok x → (before after : List ℕ) → read (before ++ bytes x ++ after) (length before) ≡ x) where
+      pub items-written : (xs : List A) → Each Ok xs → (before after : List ℕ)
+          → itemsAt (read (before ++ bytesOfAll bytes xs ++ after)) width (length xs) (length before) ≡ xs
       unfolding bytesOfAll itemsAt
       items-written [] ok before after = refl
       items-written (x ∷ xs) ok before after =
           let rest = bytesOfAll bytes xs in
           let whole = before ++ bytes x ++ rest ++ after in
           let e : before ++ (bytes x ++ rest) ++ after ≡ whole = ap (λ (ys : List ℕ). ys ++ after) (sym (append-assoc before (bytes x) rest)) in
-          let first : read whole (length before) ≡ x = ap (λ (ys : List ℕ). read ys (length before)) (append-assoc (before ++ bytes x) rest after) ∙ back x (ok .0) before (rest ++ after) in
+          let regroup = append-assoc (before ++ bytes x) rest after in
+          let first : read whole (length before) ≡ x = ap (λ (ys : List ℕ). read ys (length before)) regroup ∙ back x (ok .0) before (rest ++ after) in
           let n : length before + width ≡ length (before ++ bytes x) = ap (λ (m : ℕ). length before + m) (sym (each x)) ∙ sym (length-append before (bytes x)) in
           ap (λ (ys : List ℕ). read ys (length before) ∷ itemsAt (read ys) width (length xs) (length before + width)) e
           ∙ ap₂ (λ (y : A) (m : ℕ). y ∷ itemsAt (read whole) width (length xs) m) first n
@@ -146,3 +153,16 @@ module _ {A : Type 0} (bytes : A → List ℕ) (width : ℕ) where
         ∙ ap (λ (ys : List ℕ). take width (drop at bs) ++ ys) (items-read n (at + width) (omega arith) ∙ ap (take (width * n)) (sym (drop-drop width at bs)))
         ∙ sym (take-add width (width * n) (drop at bs))
         ∙ ap (λ (m : ℕ). take m (drop at bs)) (sym e)
+
+-- ---- Numbers of one width
+
+pub numbers-written : (w : ℕ) (ns : List ℕ) → Each (Within w) ns → (before after : List ℕ)
+    → itemsAt (numberAt w (before ++ bytesOfAll (bytesOf w) ns ++ after)) w (length ns) (length before) ≡ ns
+numbers-written w = items-written (bytesOf w) w (length-bytes w) (numberAt w) (Within w) (λ n l before after. number-written w n before after l)
+
+pub numbers-read : (w : ℕ) (bs : List ℕ) → Bytes bs → (n at : ℕ) → at + w * n ≤ length bs
+    → bytesOfAll (bytesOf w) (itemsAt (numberAt w bs) w n at) ≡ take (w * n) (drop at bs)
+numbers-read w bs h = items-read (bytesOf w) w (numberAt w bs) bs (λ at l. number-read w bs at h l)
+
+pub fit-each : {w : ℕ} (ns : List ℕ) → Fit w ns → Each (Within w) ns
+fit-each {w} ns h = each-at (Within w) 0 ns (λ i l. h .each i)

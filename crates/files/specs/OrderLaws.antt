@@ -1,7 +1,7 @@
 -- The order file there and back: a written order reads back as the same figures and spreads to the same demands, and any
 -- bytes that are read are what writing those figures gives.
 -- Assumes nothing.
-use Prim.Native.Nat.{ℕ, _+_, _*_, _/_, _%_, _^_, _≤_, _<_}
+use Prim.Native.Nat.{ℕ, _+_, _*_, _/_, _%_, _≤_}
 use native.Mathlib.Omega.{arith}
 use native.Mathlib.Nat.{mul-div-right, mul-mod-right, zero-lt-suc}
 use mathlib.Core.Path.{_≡_, refl, sym, ap, ap₂, subst, _∙_}
@@ -15,11 +15,12 @@ use Rattle.terms.specs.declared.Tariff.{Tariff}
 use Rattle.terms.specs.Answer.{figures}
 use Rattle.terms.specs.AnswerLaws.{same-figures, weigh-figures}
 use Rattle.terms.specs.Bools.{both-and}
+use Rattle.terms.specs.Limits.{traceLimit}
 use Rattle.terms.specs.Ranges.{periodsOk, tariffOk}
 use Rattle.terms.specs.RangeLaws.{PeriodsRange, TariffRange, periods-range, periods-ok, tariff-range, tariff-ok}
 use Rattle.files.specs.declared.orders.Order.{Order}
 use Rattle.files.specs.Number.{bytesOf, numberAt, bytesOfAll, itemsAt}
-use Rattle.files.specs.NumberLaws.{Fit, Bytes, fit-drop, length-bytes, length-all, number-written, number-read, Each, each-at, items-written, items-read}
+use Rattle.files.specs.NumberLaws.{Within, Fit, Bytes, fit-drop, fit-each, length-bytes, length-all, Each, numbers-written, numbers-read}
 use Rattle.files.specs.HeaderLaws.{Placed}
 use Rattle.files.specs.Order.{orderLength, orderWords, orderBytes, tariffOffset, traceOffset, tariffIn, readOrder, tracePart, partOk, demandsIn, spreadOf, writeOrder}
 use Rattle.files.specs.OrderRules.{OrderRules, rules-read, read-rules, part-read, spread-figures, length-header, length-order, length-demands, write-figures}
@@ -42,30 +43,26 @@ tariffOf ns =
       «depth_cap» = record { 0 = getD ns 11 0 };
     }
 
--- A number of 4 bytes.
-abbrev Word : ℕ → Type 0
-Word n = n < 256 ^ 4
-
 -- What the words of an order are, before the trace whatever it is.
 module _ (T : ℕ) (t : Tariff) (ds : List ℕ) (p : PeriodsRange T) (r : TariffRange t) where
   abbrev bs : List ℕ
   bs = orderBytes T t ds
 
-  words-fit : Each Word (orderWords T t)
+  words-fit : Each (Within 4) (orderWords T t)
   words-fit =
-      let a : Word T = omega (arith, p .few) in
-      let b : Word (orderLength T) = omega (arith, p .few) in
-      let c : Word (t .«rate_price» .0) = omega (arith, r .rate-prices) in
-      let d : Word (t .«depth_price» .0) = omega (arith, r .depth-prices) in
-      let e : Word (t .fee) = omega (arith, r .fees) in
-      let g : Word (t .factor .q) = omega (arith, r .factor .few) in
-      let f : Word (t .factor .p) = omega (arith, r .factor .part, r .factor .few) in
-      let h : Word (t .«rate_cap» .0) = omega (arith, r .rate-caps) in
-      let i : Word (t .«depth_cap» .0) = omega (arith, r .depth-caps) in
+      let a : Within 4 T = omega (arith, p .few) in
+      let b : Within 4 (orderLength T) = omega (arith, p .few) in
+      let c : Within 4 (t .«rate_price» .0) = omega (arith, r .rate-prices) in
+      let d : Within 4 (t .«depth_price» .0) = omega (arith, r .depth-prices) in
+      let e : Within 4 (t .fee) = omega (arith, r .fees) in
+      let g : Within 4 (t .factor .q) = omega (arith, r .factor .few) in
+      let f : Within 4 (t .factor .p) = omega (arith, r .factor .part, r .factor .few) in
+      let h : Within 4 (t .«rate_cap» .0) = omega (arith, r .rate-caps) in
+      let i : Within 4 (t .«depth_cap» .0) = omega (arith, r .depth-caps) in
       (omega arith, (a, (omega arith, (omega arith, (b, (c, (d, (e, (f, (g, (h, (i, tt))))))))))))
 
   words-are : wordsIn bs ≡ orderWords T t
-  words-are = items-written (bytesOf 4) 4 (length-bytes 4) (numberAt 4) Word (λ n l before after. number-written 4 n before after l) (orderWords T t) words-fit [] (bytesOfAll (bytesOf 2) ds)
+  words-are = numbers-written 4 (orderWords T t) words-fit [] (bytesOfAll (bytesOf 2) ds)
 
   word-is : (i : ℕ) → getD (wordsIn bs) i 0 ≡ getD (orderWords T t) i 0
   word-is i = ap (λ (ns : List ℕ). getD ns i 0) words-are
@@ -103,7 +100,8 @@ half n = mul-div-right n (zero-lt-suc 1)
 
 part-range : (part : List ℕ) (n : ℕ) → length part ≡ 2 * n → PeriodsRange n → partOk (length part) ≡ true
 part-range part n e p =
-    both-and (both-and (eq-eqb (length part % 2) 0 (ap (λ (m : ℕ). m % 2) e ∙ mul-mod-right 2 n)) (le-leb 2 (length part) (omega (arith, p .some)))) (le-leb (length part) 1024 (omega (arith, p .few)))
+    let even = eq-eqb (length part % 2) 0 (ap (λ (m : ℕ). m % 2) e ∙ mul-mod-right 2 n) in
+    both-and (both-and even (le-leb 2 (length part) (omega (arith, p .some)))) (le-leb (length part) (2 * traceLimit) (omega (arith, p .few)))
 
 -- A part of n demands spreads to them.
 part-spread : (room : ℕ) (part : List ℕ) (n : ℕ) → length part ≡ 2 * n → PeriodsRange n → n ≤ room → spreadOf room part ≡ figures (demandsIn part)
@@ -117,12 +115,12 @@ demands-written ds fit =
     let n : length part / 2 ≡ length ds = ap (λ (m : ℕ). m / 2) (length-all (bytesOf 2) 2 (length-bytes 2) ds) ∙ half (length ds) in
     ap (λ (m : ℕ). itemsAt (numberAt 2 part) 2 m 0) n
     ∙ ap (λ (bs : List ℕ). itemsAt (numberAt 2 bs) 2 (length ds) 0) (sym (append-nil part))
-    ∙ items-written (bytesOf 2) 2 (length-bytes 2) (numberAt 2) (λ n. n < 256 ^ 2) (λ n l before after. number-written 2 n before after l) ds (each-at _ 0 ds (λ i l. fit .each i)) [] []
+    ∙ numbers-written 2 ds (fit-each ds fit) [] []
 
 demands-read : (part : List ℕ) (n : ℕ) → Bytes part → length part ≡ 2 * n → bytesOfAll (bytesOf 2) (demandsIn part) ≡ part
 demands-read part n h e =
     let m : length part / 2 ≡ n = ap (λ (k : ℕ). k / 2) e ∙ half n in
-    items-read (bytesOf 2) 2 (numberAt 2 part) part (λ at l. number-read 2 part at h l) (length part / 2) 0 (omega (arith, m))
+    numbers-read 2 part h (length part / 2) 0 (omega (arith, m))
     ∙ take-all (2 * (length part / 2)) part (omega (arith, m))
 
 -- ---- There and back
@@ -195,7 +193,7 @@ module _ (bs : List ℕ) (o : Order) (e : readOrder bs ≡ figures o) where
     words-read =
         ap (λ (x : Order). bytesOfAll (bytesOf 4) (orderWords (x .periods) (x .tariff))) (read-rules bs o e .1)
         ∙ ap (bytesOfAll (bytesOf 4)) (header-read bs rules)
-        ∙ items-read (bytesOf 4) 4 (numberAt 4 bs) bs (λ at l. number-read 4 bs at bytes l) 12 0 (omega (arith, rules .placed .bytes))
+        ∙ numbers-read 4 bs bytes 12 0 (omega (arith, rules .placed .bytes))
 
     bytes-read : orderBytes (length demandsOf) (o .tariff) demandsOf ≡ bs
     bytes-read =
@@ -209,4 +207,5 @@ module _ (bs : List ℕ) (o : Order) (e : readOrder bs ≡ figures o) where
         let p = subst PeriodsRange (sym demands-count) range in
         let t = subst TariffRange (ap (λ (x : Order). x .tariff) (sym (read-rules bs o e .1))) (rules .tariff) in
         let n = length-order (length demandsOf) (o .tariff) demandsOf in
-        write-figures room (o .tariff) demandsOf (periods-ok _ p) (tariff-ok _ t) (le-leb (orderLength (length demandsOf)) room (omega (arith, ap length bytes-read, n))) ∙ ap figures bytes-read
+        let m = le-leb (orderLength (length demandsOf)) room (omega (arith, ap length bytes-read, n)) in
+        write-figures room (o .tariff) demandsOf (periods-ok _ p) (tariff-ok _ t) m ∙ ap figures bytes-read

@@ -1,7 +1,7 @@
 -- The plan file there and back: a written plan reads back as the same figures and records, and any bytes that are read are
 -- what writing those figures and records gives.
 -- Assumes nothing.
-use Prim.Native.Nat.{ℕ, zero, suc, _+_, _*_, _^_, _≤_, _<_}
+use Prim.Native.Nat.{ℕ, zero, suc, _+_, _*_, _≤_, _<_}
 use native.Mathlib.Omega.{arith}
 use mathlib.Core.Path.{_≡_, refl, sym, ap, ap₂, subst, _∙_}
 use mathlib.Core.List.{List, [], _∷_, _++_, map, append-nil, append-assoc}
@@ -17,24 +17,17 @@ use Rattle.terms.specs.Lent.{recorded, roomOf}
 use Rattle.terms.specs.Records.{Cutting, runLength, runRate, runDepth, total}
 use Rattle.files.specs.declared.plans.PlanFigures.{PlanFigures}
 use Rattle.files.specs.Number.{bytesOf, numberAt, bytesOfAll, itemsAt}
-use Rattle.files.specs.NumberLaws.{Bytes, Each, each-at, length-bytes, length-all, length-items, item-at, number-written, number-read, items-written, items-read}
+use Rattle.files.specs.NumberLaws.{Within, Bytes, Each, numbers-written, numbers-read, each-at, length-bytes, length-all, length-items, item-at, number-written, number-read, items-written, items-read}
 use Rattle.files.specs.HeaderLaws.{Placed}
 use Rattle.files.specs.RecordLaws.{RecordsRange, noRecord, records-range, records-ok}
 use Rattle.files.specs.Plan.{Recorded, costOffset, bucketsOffset, planLength, planWords, planBytes, recordBytes, recordOf, recordAt, recordsIn, countsOk, recordsOk, planIn, readPlan, listed, recordsOf, writePlan}
 use Rattle.files.specs.PlanRules.{PlanRules, CountsRange, counts-range, counts-ok, bucketsIn, recordedIn, rules-read, read-rules, read-fits, write-figures, length-head, length-record, length-plan, length-records}
 
--- A number of 4 bytes.
-abbrev Word : ℕ → Type 0
-Word n = n < 256 ^ 4
-
-words-back : (ns before after : List ℕ) → Each Word ns → itemsAt (numberAt 4 (before ++ bytesOfAll (bytesOf 4) ns ++ after)) 4 (length ns) (length before) ≡ ns
-words-back ns before after fit = items-written (bytesOf 4) 4 (length-bytes 4) (numberAt 4) Word (λ n l xs ys. number-written 4 n xs ys l) ns fit before after
-
 -- ---- One record
 
 -- The figures of a record have 4 bytes each.
 abbrev Fits : BucketRecord → Type 0
-Fits x = Each Word (runLength x ∷ runRate x ∷ runDepth x ∷ [])
+Fits x = Each (Within 4) (runLength x ∷ runRate x ∷ runDepth x ∷ [])
 
 abbrev recordFrom : List ℕ → BucketRecord
 recordFrom ns = recordOf (getD ns 0 0) (getD ns 1 0) (getD ns 2 0)
@@ -46,11 +39,11 @@ record-words bs at = let e : at + 8 ≡ at + 4 + 4 = omega arith in ap (λ (n : 
 
 record-written : (x : BucketRecord) → Fits x → (before after : List ℕ) → recordAt (before ++ recordBytes x ++ after) (length before) ≡ x
 record-written x fit before after =
-    record-words (before ++ recordBytes x ++ after) (length before) ∙ ap recordFrom (words-back (runLength x ∷ runRate x ∷ runDepth x ∷ []) before after fit)
+    record-words (before ++ recordBytes x ++ after) (length before) ∙ ap recordFrom (numbers-written 4 (runLength x ∷ runRate x ∷ runDepth x ∷ []) fit before after)
 
 record-read : (bs : List ℕ) (at : ℕ) → Bytes bs → at + 12 ≤ length bs → recordBytes (recordAt bs at) ≡ take 12 (drop at bs)
 unfolding itemsAt
-record-read bs at h l = ap recordBytes (record-words bs at) ∙ items-read (bytesOf 4) 4 (numberAt 4 bs) bs (λ n m. number-read 4 bs n h m) 3 at l
+record-read bs at h l = ap recordBytes (record-words bs at) ∙ numbers-read 4 bs h 3 at l
 
 -- ---- Writing and then reading
 
@@ -67,9 +60,9 @@ records-fit T xs r few = each-at Fits noRecord xs one
     one : (i : ℕ) → i < length xs → Fits (getD xs i noRecord)
     one i l =
         let x = r .each i l in
-        let a : Word (runLength (getD xs i noRecord)) = omega (arith, run-within xs i l, r .sum) in
-        let b : Word (runRate (getD xs i noRecord)) = omega (arith, x .bucket .rates) in
-        let c : Word (runDepth (getD xs i noRecord)) = omega (arith, x .bucket .depths) in
+        let a : Within 4 (runLength (getD xs i noRecord)) = omega (arith, run-within xs i l, r .sum) in
+        let b : Within 4 (runRate (getD xs i noRecord)) = omega (arith, x .bucket .rates) in
+        let c : Within 4 (runDepth (getD xs i noRecord)) = omega (arith, x .bucket .depths) in
         (a, (b, (c, tt)))
 
 module _ (T cost : ℕ) (xs : Cutting) (c : CountsRange T (length xs)) (limit : cost ≤ costLimit) (r : RecordsRange T xs) where
@@ -84,11 +77,11 @@ module _ (T cost : ℕ) (xs : Cutting) (c : CountsRange T (length xs)) (limit : 
 
   words-are : itemsAt (numberAt 4 bs) 4 6 0 ≡ planWords T (length xs)
   words-are =
-      let k : Word (length xs) = omega (arith, c .few, c .periods .few) in
-      let n : Word T = omega (arith, c .periods .few) in
-      let m : Word (planLength (length xs)) = omega (arith, c .few, c .periods .few) in
+      let k : Within 4 (length xs) = omega (arith, c .few, c .periods .few) in
+      let n : Within 4 T = omega (arith, c .periods .few) in
+      let m : Within 4 (planLength (length xs)) = omega (arith, c .few, c .periods .few) in
       ap (λ (ys : List ℕ). itemsAt (numberAt 4 ys) 4 6 0) (append-assoc head (bytesOf 8 cost) rest)
-      ∙ words-back (planWords T (length xs)) [] (bytesOf 8 cost ++ rest) (omega arith, (n, (k, (omega arith, (omega arith, (m, tt))))))
+      ∙ numbers-written 4 (planWords T (length xs)) (omega arith, (n, (k, (omega arith, (omega arith, (m, tt)))))) [] (bytesOf 8 cost ++ rest)
 
   word-is : (i : ℕ) → getD (itemsAt (numberAt 4 bs) 4 6 0) i 0 ≡ getD (planWords T (length xs)) i 0
   word-is i = ap (λ (ns : List ℕ). getD ns i 0) words-are
@@ -138,7 +131,8 @@ module _ (T cost : ℕ) (xs : Cutting) (c : CountsRange T (length xs)) (limit : 
 
 -- A written plan reads back as the same figures and records, into any lists that have room for them.
 pub write-read : (room : ℕ) (x : PlanFigures) (runs rates depths bs : List ℕ) → writePlan room x runs rates depths ≡ figures bs
-    → (space : ℕ) → x .buckets ≤ space → readPlan space bs ≡ figures (record { periods = x .periods; cost = x .cost; buckets = recordsOf (x .buckets) runs rates depths })
+    → (space : ℕ) → x .buckets ≤ space
+    → readPlan space bs ≡ figures (record { periods = x .periods; cost = x .cost; buckets = recordsOf (x .buckets) runs rates depths })
 unfolding writePlan
 write-read room x runs rates depths bs e space l =
     let xs = recordsOf (x .buckets) runs rates depths in
@@ -169,7 +163,7 @@ bytes-read bs h r =
     let words : bytesOfAll (bytesOf 4) (planWords (numberAt 4 bs 4) (length (bucketsIn bs))) ≡ take 24 bs =
     ap (λ (m : ℕ). bytesOfAll (bytesOf 4) (planWords (numberAt 4 bs 4) m)) (length-items (recordAt bs) 12 k bucketsOffset)
     ∙ ap (bytesOfAll (bytesOf 4)) (header-read bs r)
-    ∙ items-read (bytesOf 4) 4 (numberAt 4 bs) bs (λ at l. number-read 4 bs at h l) 6 0 (omega (arith, n)) in
+    ∙ numbers-read 4 bs h 6 0 (omega (arith, n)) in
     let cost : bytesOf 8 (numberAt 8 bs costOffset) ≡ take 8 (drop 24 bs) = number-read 8 bs costOffset h (omega (arith, n)) in
     let records : bytesOfAll recordBytes (bucketsIn bs) ≡ drop 32 bs =
     items-read recordBytes 12 (recordAt bs) bs (λ at l. record-read bs at h l) k bucketsOffset (omega (arith, n))
@@ -201,7 +195,8 @@ read-write bs h x e =
     subst (λ (y : Recorded). Writes y bs) (sym (r .1)) (rules-write bs h (r .0))
 
 -- The lists that reading a plan has filled hold its records.
-figure-held : (figure : BucketRecord → ℕ) (xs : Cutting) (old : List ℕ) (i : ℕ) → figure noRecord ≡ 0 → i < length xs → getD (recorded figure (figures xs) old) i 0 ≡ figure (getD xs i noRecord)
+figure-held : (figure : BucketRecord → ℕ) (xs : Cutting) (old : List ℕ) (i : ℕ) → figure noRecord ≡ 0 → i < length xs
+    → getD (recorded figure (figures xs) old) i 0 ≡ figure (getD xs i noRecord)
 figure-held figure xs old i z l =
     List·getD-append (map figure xs) _ 0 i (omega (arith, length-map xs figure))
     ∙ ap (getD (map figure xs) i) (sym z)

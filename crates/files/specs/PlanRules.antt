@@ -15,7 +15,7 @@ use Rattle.terms.specs.AnswerLaws.{same-figures, weigh-figures, on-figures}
 use Rattle.terms.specs.Bools.{and-three, both-and}
 use Rattle.terms.specs.Limits.{costLimit}
 use Rattle.terms.specs.Lent.{recorded, roomOf}
-use Rattle.terms.specs.LentLaws.{Lists, lists-kept, room-parts}
+use Rattle.terms.specs.LentLaws.{Lists, lists-kept, rooms}
 use Rattle.terms.specs.Ranges.{periodsOk}
 use Rattle.terms.specs.Records.{Cutting, runLength, runRate, runDepth}
 use Rattle.terms.specs.RangeLaws.{PeriodsRange, periods-range, periods-ok}
@@ -102,7 +102,8 @@ pub record PlanRules (bs : List ℕ) : Type 0 where
 -- Every plan that breaks no rule of its format is read.
 pub rules-read : (bs : List ℕ) → PlanRules bs → planIn bs ≡ figures (recordedIn bs)
 rules-read bs r =
-    plan-figures bs (le-leb _ _ (r .header)) (eq-eqb _ _ (r .kind)) (counts-ok _ _ (r .counts)) (placed-ok 12 costOffset bucketsOffset _ bs (r .placed)) (le-leb _ _ (r .cost)) (records-ok _ _ (r .records))
+    plan-figures bs (le-leb _ _ (r .header)) (eq-eqb _ _ (r .kind)) (counts-ok _ _ (r .counts))
+    (placed-ok 12 costOffset bucketsOffset _ bs (r .placed)) (le-leb _ _ (r .cost)) (records-ok _ _ (r .records))
 
 -- And no other.
 pub read-rules : (bs : List ℕ) (x : Recorded) → planIn bs ≡ figures x → PlanRules bs × (x ≡ recordedIn bs)
@@ -173,14 +174,20 @@ module _ (bs runs rates depths : List ℕ) where
 
     pub read-full : leb (y .buckets) room ≡ false → Result (refused 6) runs rates depths
     read-full h =
-        let g : readPlan room bs ≡ refused 6 = ap (fitting room) (p .is-read) ∙ ap (λ (ok : Bool). weigh ok 6 (figures (recordedIn bs))) (ap (λ (n : ℕ). leb n room) count ∙ h) in
+        let k : leb (length (bucketsIn bs)) room ≡ false = ap (λ (n : ℕ). leb n room) count ∙ h in
+        let g : readPlan room bs ≡ refused 6 = ap (fitting room) (p .is-read) ∙ ap (λ (ok : Bool). weigh ok 6 (figures (recordedIn bs))) k in
         (sym (ap figuresOf g), lists-kept runs rates depths _ 6 (ap bucketsOf g))
 
     module _ (h : leb (y .buckets) room ≡ true) where
+      -- one figure of each record, stored at the front
+      abbrev stored : (BucketRecord → ℕ) → List ℕ → List ℕ
+      stored figure old = sets old 0 (map figure (recordsIn (y .buckets) bs))
+
       fits : readPlan room bs ≡ figures (recordedIn bs)
       fits = read-fits room bs (recordedIn bs) (p .is-read) (omega (arith, count, leb-true (y .buckets) room h))
 
-      loaded : (figure : BucketRecord → ℕ) (old new : List ℕ) → y .buckets ≤ length old → new ≡ sets old 0 (map figure (recordsIn (y .buckets) bs)) → new ≡ recorded figure (bucketsOf (readPlan room bs)) old
+      loaded : (figure : BucketRecord → ℕ) (old new : List ℕ) → y .buckets ≤ length old → new ≡ stored figure old
+          → new ≡ recorded figure (bucketsOf (readPlan room bs)) old
       loaded figure old new l e =
           e
           ∙ ap (λ (n : ℕ). sets old 0 (map figure (recordsIn n bs))) (sym (p .is-count))
@@ -188,11 +195,14 @@ module _ (bs runs rates depths : List ℕ) where
           ∙ ap (λ (a : Answer Recorded). recorded figure (bucketsOf a) old) (sym fits)
 
       pub read-loaded : (runs′ rates′ depths′ : List ℕ) → figures y ≡ figuresOf (planIn bs)
-          → (runs′ ≡ sets runs 0 (map runLength (recordsIn (y .buckets) bs))) × ((rates′ ≡ sets rates 0 (map runRate (recordsIn (y .buckets) bs))) × (depths′ ≡ sets depths 0 (map runDepth (recordsIn (y .buckets) bs))))
+          → (runs′ ≡ stored runLength runs) × ((rates′ ≡ stored runRate rates) × (depths′ ≡ stored runDepth depths))
           → Result (figures y) runs′ rates′ depths′
       read-loaded runs′ rates′ depths′ e s =
-          let l = room-parts (y .buckets) runs rates depths (leb-true _ _ h) in
-          (e ∙ ap figuresOf (p .is-read ∙ sym fits), (loaded runLength runs runs′ (l .0) (s .0), (loaded runRate rates rates′ (l .1) (s .1 .0), loaded runDepth depths depths′ (l .2) (s .1 .1))))
+          let l = rooms (y .buckets) runs rates depths (leb-true _ _ h) in
+          let runs-are = loaded runLength runs runs′ (l .first) (s .0) in
+          let rates-are = loaded runRate rates rates′ (l .second) (s .1 .0) in
+          let depths-are = loaded runDepth depths depths′ (l .third) (s .1 .1) in
+          (e ∙ ap figuresOf (p .is-read ∙ sym fits), (runs-are, (rates-are, depths-are)))
 
 -- ---- Writing, rule by rule
 

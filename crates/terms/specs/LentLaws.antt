@@ -18,10 +18,19 @@ use Rattle.terms.specs.Records.{Cutting, runLength, runRate, runDepth}
 pub room-each : (n a b c : ℕ) → leb n a && leb n b && leb n c ≡ leb n (min (min a b) c)
 room-each n a b c = ap (λ (x : Bool). x && leb n c) (leb-min n a b) ∙ leb-min n (min a b) c
 
-pub room-parts : (n : ℕ) (xs ys zs : List ℕ) → n ≤ roomOf xs ys zs → (n ≤ length xs) × (n ≤ length ys) × (n ≤ length zs)
-room-parts n xs ys zs h =
+pub record Rooms (n : ℕ) (xs ys zs : List ℕ) : Type 0 where
+  pub first : n ≤ length xs
+  pub second : n ≤ length ys
+  pub third : n ≤ length zs
+
+pub rooms : (n : ℕ) (xs ys zs : List ℕ) → n ≤ roomOf xs ys zs → Rooms n xs ys zs
+rooms n xs ys zs h =
     let two = le-trans h (min-le-left (min (length xs) (length ys)) (length zs)) in
-    (le-trans two (min-le-left _ _), le-trans two (min-le-right (length xs) _), le-trans h (min-le-right (min (length xs) (length ys)) _))
+    record {
+      first = le-trans two (min-le-left _ _);
+      second = le-trans two (min-le-right (length xs) _);
+      third = le-trans h (min-le-right (min (length xs) (length ys)) _);
+    }
 
 -- What three lists lent for records hold that held runs, rates and depths.
 module _ (runs rates depths : List ℕ) where

@@ -66,25 +66,37 @@ sub-k : tie.Need-sub-k Inv-loop μ-loop
 sub-k c = search needs
 
 mul-value : tie.Need-mul-value Inv-loop μ-loop
-mul-value c = let s = c .before .before in omega (arith, small _ _ _ _ _ (c .before .loop .inv) (c .loop-test .taken) (s .pre .0))
+mul-value c =
+    let s = c .before .before in
+    omega (arith, small _ _ _ _ _ (c .before .loop .inv) (c .loop-test .taken) (s .pre .0))
 
 add-value : tie.Need-add-value Inv-loop μ-loop
 add-value c = let l = c .before .loop in let s = c .before .before in let h = l .inv .few in omega (arith, s .pre .1)
 
 shared-slice-read-value : tie.Need-shared-slice-read-value Inv-loop μ-loop
-shared-slice-read-value c = let l = c .before .before .loop in let s = c .before .before .before in let h = l .inv .few in omega (arith, s .pre .1, c .before .loop-test .taken)
+shared-slice-read-value c =
+    let l = c .before .before .loop in
+    let s = c .before .before .before in
+    let h = l .inv .few in
+    omega (arith, s .pre .1, c .before .loop-test .taken)
 
 cast-value : tie.Need-cast-value Inv-loop μ-loop
 cast-value c = omega (arith, c .shared-slice-known .given (c .before .before .before .args .at + (c .before .before .loop .k - 1)))
 
 add-value-2 : tie.Need-add-value-2 Inv-loop μ-loop
-add-value-2 c = let l = c .before .before .loop in let s = c .before .before .before in omega (arith, small _ _ _ _ _ (l .inv) (c .before .loop-test .taken) (s .pre .0), c .shared-slice-known .given (s .args .at + (l .k - 1)))
+add-value-2 c =
+    let l = c .before .before .loop in
+    let s = c .before .before .before in
+    omega (arith, small _ _ _ _ _ (l .inv) (c .before .loop-test .taken) (s .pre .0), c .shared-slice-known .given (s .args .at + (l .k - 1)))
 
 loop-less : tie.Need-loop-less Inv-loop μ-loop
 loop-less c = search needs
 
 loop-again : tie.Need-loop-again Inv-loop μ-loop
-loop-again c = let l = c .before .before .loop in let s = c .before .before .before in next _ _ _ _ _ (l .inv) (c .before .loop-test .taken) (s .pre .1) (omega (arith, c .shared-slice-known .given (s .args .at + (l .k - 1))))
+loop-again c =
+    let l = c .before .before .loop in
+    let s = c .before .before .before in
+    next _ _ _ _ _ (l .inv) (c .before .loop-test .taken) (s .pre .1) (omega (arith, c .shared-slice-known .given (s .args .at + (l .k - 1))))
 
 returns : tie.Need-returns Inv-loop μ-loop
 returns c = end _ _ _ _ _ (c .before .loop .inv) (c .loop-test .left)

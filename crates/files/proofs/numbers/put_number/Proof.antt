@@ -51,7 +51,10 @@ add-bytes : tie.Need-add-bytes Inv-loop μ-loop
 add-bytes c = let s = c .before .before in omega (arith, s .pre, c .loop-test .taken)
 
 slice-write-bytes : tie.Need-slice-write-bytes Inv-loop μ-loop
-slice-write-bytes c = let s = c .before .before in let e = c .before .loop .inv .same in omega (arith, s .pre, c .loop-test .taken)
+slice-write-bytes c =
+    let s = c .before .before in
+    let e = c .before .loop .inv .same in
+    omega (arith, s .pre, c .loop-test .taken)
 
 add-k : tie.Need-add-k Inv-loop μ-loop
 add-k c = search needs

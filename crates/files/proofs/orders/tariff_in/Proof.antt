@@ -25,7 +25,17 @@ word-at-requires-7 : tie.Need-word-at-requires-7
 word-at-requires-7 c κs = search needs
 
 returns : tie.Need-returns
-returns c = rw (c .before .before .before .before .before .before .word-at .ensures, c .before .before .before .before .before .word-at2 .ensures, c .before .before .before .before .word-at3 .ensures, c .before .before .before .word-at4 .ensures, c .before .before .word-at5 .ensures, c .before .word-at6 .ensures, c .word-at7 .ensures)
+returns c =
+    let third = c .before .before .before .before in
+    rw (
+      third .before .before .word-at .ensures,
+      third .before .word-at2 .ensures,
+      third .word-at3 .ensures,
+      c .before .before .before .word-at4 .ensures,
+      c .before .before .word-at5 .ensures,
+      c .before .word-at6 .ensures,
+      c .word-at7 .ensures,
+    )
 
 pub tariff-in-spec : {M : Type 1} → statement M
 tariff-in-spec =

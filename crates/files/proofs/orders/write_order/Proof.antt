@@ -27,13 +27,17 @@ periods-in-range-requires : tie.Need-periods-in-range-requires
 periods-in-range-requires c κs = search needs
 
 returns : tie.Need-returns
-returns c = let s = c .before .before .before .before .args in fill-refused _ (s .bytes .now) 3 (write-periods _ _ _ (check-failed (c .before .periods-in-range .ensures) (c .if1 .taken)))
+returns c =
+    let s = c .before .before .before .before .args in
+    fill-refused _ (s .bytes .now) 3 (write-periods _ _ _ (check-failed (c .before .periods-in-range .ensures) (c .if1 .taken)))
 
 tariff-in-range-requires : tie.Need-tariff-in-range-requires
 tariff-in-range-requires c κs = search needs
 
 returns-2 : tie.Need-returns-2
-returns-2 c = let s = c .before .before .before .before .before .before .args in fill-refused _ (s .bytes .now) 5 (write-figure _ _ _ (counts (c .before .before)) (check-failed (c .before .tariff-in-range .ensures) (c .if2 .taken)))
+returns-2 c =
+    let s = c .before .before .before .before .before .before .args in
+    fill-refused _ (s .bytes .now) 5 (write-figure _ _ _ (counts (c .before .before)) (check-failed (c .before .tariff-in-range .ensures) (c .if2 .taken)))
 
 mul-length : tie.Need-mul-length
 mul-length c = search needs
@@ -42,7 +46,9 @@ add-length : tie.Need-add-length
 add-length c = search needs
 
 returns-3 : tie.Need-returns-3
-returns-3 c = let s = c .before .before .before .before .before .before .before .args in fill-refused _ (s .bytes .now) 6 (write-room _ _ _ (counts (c .before .before .before)) (figures (c .before)) (lt-leb _ _ (c .if3 .taken)))
+returns-3 c =
+    let s = c .before .before .before .before .before .before .before .args in
+    fill-refused _ (s .bytes .now) 6 (write-room _ _ _ (counts (c .before .before .before)) (figures (c .before)) (lt-leb _ _ (c .if3 .taken)))
 
 cast-put-header : tie.Need-cast-put-header
 cast-put-header c =
@@ -59,7 +65,16 @@ same-length : tie.Need-same-length
 same-length c = search needs
 
 returns-4 : tie.Need-returns-4
-returns-4 c = let h = c .before .before .before .before .before .before in let e = h .before .before in let s = e .before .before .before .before .before .before .before .args in fill-stored _ (s .bytes .now) (orderBytes (length (s .trace .now)) (s .tariff) (s .trace .now)) _ _ (write-figures _ _ _ (counts (e .before .before .before)) (figures (e .before)) (le-leb _ _ (e .if3 .left))) (sym (length-order _ (s .tariff) (s .trace .now))) (omega (arith, e .if3 .left, length-order (length (s .trace .now)) (s .tariff) (s .trace .now))) (sets-both (s .bytes .now) (bytesOfAll (bytesOf 4) (orderWords (length (s .trace .now)) (s .tariff))) (bytesOfAll (bytesOf 2) (s .trace .now)) _ _ traceOffset (length-header (length (s .trace .now)) (s .tariff)) (h .put-header .ensures) (c .before .before .put-demands .ensures))
+returns-4 c =
+    let h = c .before .before .before .before .before .before in
+    let e = h .before .before in
+    let s = e .before .before .before .before .before .before .before .args in
+    let T = length (s .trace .now) in
+    let n = length-order T (s .tariff) (s .trace .now) in
+    fill-stored _ (s .bytes .now) (orderBytes T (s .tariff) (s .trace .now)) _ _
+    (write-figures _ _ _ (counts (e .before .before .before)) (figures (e .before)) (le-leb _ _ (e .if3 .left))) (sym n) (omega (arith, e .if3 .left, n))
+    (sets-both (s .bytes .now) (bytesOfAll (bytesOf 4) (orderWords T (s .tariff))) (bytesOfAll (bytesOf 2) (s .trace .now)) _ _ traceOffset
+    (length-header T (s .tariff)) (h .put-header .ensures) (c .before .before .put-demands .ensures))
 
 pub write-order-spec : {M : Type 1} → statement M
 write-order-spec =

@@ -52,11 +52,13 @@ bytes-are c =
     let bs = c .before .before .before .before .before .before .before .before .before .before .args .bytes .now in
     placed-range 12 costOffset bucketsOffset (planLength (numberAt 4 bs 8)) bs (places c) .bytes
 
-cost : (c : tie.Else5) → leb (numberAt 8 (c .before .before .before .before .before .before .before .before .before .before .before .before .args .bytes .now) costOffset) costLimit ≡ true
+cost : (c : tie.Else5) → let bs = c .before .before .before .before .before .before .before .before .before .before .before .before .args .bytes .now in
+    leb (numberAt 8 bs costOffset) costLimit ≡ true
 cost c = ap (λ (n : ℕ). leb n costLimit) (sym (c .before .number-at .ensures .0)) ∙ le-leb _ _ (c .if5 .left)
 
 -- the check of the records is one of T and k as the bytes have them
-records-are : (bs : List ℕ) (T k : ℕ) → T ≡ numberAt 4 bs 4 → k ≡ numberAt 4 bs 8 → recordsOk (numberAt 4 bs 4) (bucketsIn bs) ≡ recordsOk T (recordsIn k bs)
+records-are : (bs : List ℕ) (T k : ℕ) → T ≡ numberAt 4 bs 4 → k ≡ numberAt 4 bs 8
+    → recordsOk (numberAt 4 bs 4) (bucketsIn bs) ≡ recordsOk T (recordsIn k bs)
 records-are bs T k e f = ap₂ (λ (m n : ℕ). recordsOk m (recordsIn n bs)) (sym e) (sym f)
 
 returns : tie.Need-returns
@@ -102,8 +104,8 @@ returns-4 c =
     let w = d .before .before in
     let k = w .before .before in
     let bs = k .before .before .before .before .args .bytes .now in
-    let e = ap (λ (n : ℕ). placedAs 12 costOffset bucketsOffset (planLength n) bs) (sym (w .word-at3 .ensures)) ∙ check-failed (c .before .placed .ensures) (c .if4 .taken) in
-    sym (ap figuresOf (plan-misplaced _ (long (k .before .before)) (kind k) (counts d) e))
+    let e = ap (λ (n : ℕ). placedAs 12 costOffset bucketsOffset (planLength n) bs) (sym (w .word-at3 .ensures)) in
+    sym (ap figuresOf (plan-misplaced _ (long (k .before .before)) (kind k) (counts d) (e ∙ check-failed (c .before .placed .ensures) (c .if4 .taken))))
 
 number-at-requires : tie.Need-number-at-requires
 number-at-requires c κs = (omega arith, omega (arith, bytes-are c))

@@ -39,7 +39,8 @@ returns c =
     let w = c .before .before .before .before .before .before in
     let s = w .before .before .before .before .before .args in
     let words = planWords (s .plan .periods) (s .plan .buckets) in
-    sets-both (s .bytes .now) (bytesOfAll (bytesOf 4) words) (bytesOf 8 (s .plan .cost)) _ _ costOffset (length-all (bytesOf 4) 4 (length-bytes 4) words) (w .put-words .ensures) (c .before .before .put-number .ensures)
+    sets-both (s .bytes .now) (bytesOfAll (bytesOf 4) words) (bytesOf 8 (s .plan .cost)) _ _ costOffset
+    (length-all (bytesOf 4) 4 (length-bytes 4) words) (w .put-words .ensures) (c .before .before .put-number .ensures)
 
 pub put-header-spec : {M : Type 1} → statement M
 put-header-spec =

@@ -43,7 +43,8 @@ records c = check-passed (c .before .records-in-lists .ensures) (c .if4 .left)
 
 -- the header stored with the number of records, and then the records
 stored : (T k cost : ℕ) (runs rates depths old new newer : List ℕ) → let xs = recordsOf k runs rates depths in
-    new ≡ sets old 0 (bytesOfAll (bytesOf 4) (planWords T k) ++ bytesOf 8 cost) → newer ≡ sets new bucketsOffset (bytesOfAll recordBytes xs) → newer ≡ sets old 0 (planBytes T cost xs)
+    new ≡ sets old 0 (bytesOfAll (bytesOf 4) (planWords T k) ++ bytesOf 8 cost)
+    → newer ≡ sets new bucketsOffset (bytesOfAll recordBytes xs) → newer ≡ sets old 0 (planBytes T cost xs)
 stored T k cost runs rates depths old new newer e f =
     let xs = recordsOf k runs rates depths in
     sets-both old (bytesOfAll (bytesOf 4) (planWords T k) ++ bytesOf 8 cost) (bytesOfAll recordBytes xs) new newer bucketsOffset (length-head T k cost) e f
@@ -128,7 +129,8 @@ returns-6 c =
     fill-stored _ (s .bytes .now) (planBytes (s .plan .periods) (s .plan .cost) xs) _ _
     (write-figures _ _ _ _ _ (counts (o .before .before)) (cost o) (lists l) (records r) (le-leb _ _ (e .if5 .left)))
     (sym (n ∙ ap planLength m)) (omega (arith, e .if5 .left, n, m))
-    (stored (s .plan .periods) (s .plan .buckets) (s .plan .cost) (s .runs .now) (s .rates .now) (s .depths .now) _ _ _ (h .put-header .ensures) (c .before .before .put-records .ensures))
+    (stored (s .plan .periods) (s .plan .buckets) (s .plan .cost) (s .runs .now) (s .rates .now) (s .depths .now) _ _ _
+    (h .put-header .ensures) (c .before .before .put-records .ensures))
 
 pub write-plan-spec : {M : Type 1} → statement M
 write-plan-spec =

@@ -4,10 +4,10 @@ use native.Mathlib.Omega.{arith}
 use mathlib.Core.Path.{_≡_, sym, ap, subst, _∙_}
 use mathlib.Core.List.{List, _∷_, map}
 use borrow.Author.Needs.{needs}
-use lib.ListN.{length, set}
+use lib.ListN.{set}
 use lib.Seq.{sets}
 use Rattle.terms.specs.declared.BucketRecord.{BucketRecord}
-use Rattle.terms.specs.LentLaws.{room-parts}
+use Rattle.terms.specs.LentLaws.{Rooms, rooms}
 use Rattle.terms.specs.Records.{runLength, runRate, runDepth}
 use Rattle.files.specs.Number.{itemsAt}
 use Rattle.files.specs.Plan.{bucketsOffset, recordAt, recordsIn}
@@ -45,10 +45,16 @@ module _ (bs : List ℕ) (k at i : ℕ) where
   end : (figure : BucketRecord → ℕ) {old new : List ℕ} → Stored figure bs k old new at i → k ≤ i → new ≡ sets old 0 (map figure (recordsIn k bs))
   end figure s l = all-stored s (ap (map figure) (items-none (recordAt bs) 12 k i at l))
 
-  next : {runs₀ rates₀ depths₀ runs rates depths : List ℕ} → Loading bs k runs₀ rates₀ depths₀ runs rates depths at i → i < k → (x : BucketRecord) → x ≡ recordAt bs at
+  next : {runs₀ rates₀ depths₀ runs rates depths : List ℕ} → Loading bs k runs₀ rates₀ depths₀ runs rates depths at i
+      → i < k → (x : BucketRecord) → x ≡ recordAt bs at
       → Loading bs k runs₀ rates₀ depths₀ (set runs i (runLength x)) (set rates i (runRate x)) (set depths i (runDepth x)) (at + 12) (i + 1)
   next w l x e =
-      record { place = omega (arith, w .place); runs-stored = one runLength (w .runs-stored) l x e; rates-stored = one runRate (w .rates-stored) l x e; depths-stored = one runDepth (w .depths-stored) l x e }
+      record {
+        place = omega (arith, w .place);
+        runs-stored = one runLength (w .runs-stored) l x e;
+        rates-stored = one runRate (w .rates-stored) l x e;
+        depths-stored = one runDepth (w .depths-stored) l x e;
+      }
 
 abbrev Inv-loop : tie.InvT-loop
 Inv-loop bytes buckets runs₀ rates₀ depths₀ at₀ i₀ runs rates depths at i = Loading bytes buckets runs₀ rates₀ depths₀ runs rates depths at i
@@ -56,35 +62,49 @@ Inv-loop bytes buckets runs₀ rates₀ depths₀ at₀ i₀ runs rates depths a
 abbrev μ-loop : tie.MeasureT-loop
 μ-loop bytes buckets runs₀ rates₀ depths₀ at₀ i₀ runs rates depths at i = buckets - i
 
-room : (s : tie.Start Inv-loop μ-loop) → let a = s .args in (a .buckets ≤ length (a .runs .now)) × (a .buckets ≤ length (a .rates .now)) × (a .buckets ≤ length (a .depths .now))
-room s = let a = s .args in room-parts (a .buckets) (a .runs .now) (a .rates .now) (a .depths .now) (s .pre .1)
+room : (s : tie.Start Inv-loop μ-loop) → let a = s .args in Rooms (a .buckets) (a .runs .now) (a .rates .now) (a .depths .now)
+room s = let a = s .args in rooms (a .buckets) (a .runs .now) (a .rates .now) (a .depths .now) (s .pre .1)
 
 loop-holds : tie.Need-loop-holds Inv-loop μ-loop
 loop-holds c = begin _ _ _ _ _
 
 record-at-requires : tie.Need-record-at-requires Inv-loop μ-loop
-record-at-requires c κs = let s = c .before .before .before .before .before .before in omega (arith, c .before .loop .inv .place, c .loop-test .taken, s .pre .0)
+record-at-requires c κs =
+    let s = c .before .before .before .before .before .before in
+    omega (arith, c .before .loop .inv .place, c .loop-test .taken, s .pre .0)
 
 mul-runs : tie.Need-mul-runs Inv-loop μ-loop
 mul-runs c = search needs
 
 slice-write-runs : tie.Need-slice-write-runs Inv-loop μ-loop
-slice-write-runs c = let i = c .before in let s = i .before .before .before .before .before .before in omega (arith, i .loop-test .taken, room s .0, i .before .loop .inv .runs-stored .same)
+slice-write-runs c =
+    let i = c .before in
+    let s = i .before .before .before .before .before .before in
+    omega (arith, i .loop-test .taken, room s .first, i .before .loop .inv .runs-stored .same)
 
 mul-rates : tie.Need-mul-rates Inv-loop μ-loop
 mul-rates c = search needs
 
 slice-write-rates : tie.Need-slice-write-rates Inv-loop μ-loop
-slice-write-rates c = let i = c .before in let s = i .before .before .before .before .before .before in omega (arith, i .loop-test .taken, room s .1, i .before .loop .inv .rates-stored .same)
+slice-write-rates c =
+    let i = c .before in
+    let s = i .before .before .before .before .before .before in
+    omega (arith, i .loop-test .taken, room s .second, i .before .loop .inv .rates-stored .same)
 
 mul-depths : tie.Need-mul-depths Inv-loop μ-loop
 mul-depths c = search needs
 
 slice-write-depths : tie.Need-slice-write-depths Inv-loop μ-loop
-slice-write-depths c = let i = c .before in let s = i .before .before .before .before .before .before in omega (arith, i .loop-test .taken, room s .2, i .before .loop .inv .depths-stored .same)
+slice-write-depths c =
+    let i = c .before in
+    let s = i .before .before .before .before .before .before in
+    omega (arith, i .loop-test .taken, room s .third, i .before .loop .inv .depths-stored .same)
 
 add-at : tie.Need-add-at Inv-loop μ-loop
-add-at c = let i = c .before in let s = i .before .before .before .before .before .before in omega (arith, i .before .loop .inv .place, i .loop-test .taken, s .pre .0, s .good .0 .0)
+add-at c =
+    let i = c .before in
+    let s = i .before .before .before .before .before .before in
+    omega (arith, i .before .loop .inv .place, i .loop-test .taken, s .pre .0, s .good .0 .0)
 
 add-i : tie.Need-add-i Inv-loop μ-loop
 add-i c = search needs
@@ -105,7 +125,10 @@ same-length-3 : tie.Need-same-length-3 Inv-loop μ-loop
 same-length-3 c = c .before .loop .inv .depths-stored .same
 
 returns : tie.Need-returns Inv-loop μ-loop
-returns c = let l = c .before .loop .inv in let h = c .loop-test .left in (end _ _ _ _ runLength (l .runs-stored) h, (end _ _ _ _ runRate (l .rates-stored) h, end _ _ _ _ runDepth (l .depths-stored) h))
+returns c =
+    let l = c .before .loop .inv in
+    let h = c .loop-test .left in
+    (end _ _ _ _ runLength (l .runs-stored) h, (end _ _ _ _ runRate (l .rates-stored) h, end _ _ _ _ runDepth (l .depths-stored) h))
 
 pub load-records-spec : {M : Type 1} → statement M
 load-records-spec =

@@ -4,11 +4,10 @@ use native.Mathlib.Omega.{arith}
 use mathlib.Core.Path.{_≡_, ap, subst}
 use mathlib.Core.List.{List, [], _++_}
 use borrow.Author.Needs.{needs}
-use lib.ListN.{length}
 use lib.Seq.{sets}
-use Rattle.terms.specs.LentLaws.{room-parts}
-use Rattle.files.specs.Number.{bytesOf, bytesOfAll, itemsAt}
-use Rattle.files.specs.NumberLaws.{length-bytes, length-all}
+use Rattle.terms.specs.LentLaws.{Rooms, rooms}
+use Rattle.files.specs.Number.{bytesOfAll, itemsAt}
+use Rattle.files.specs.PlanRules.{length-record}
 use Rattle.files.specs.Plan.{listed, recordBytes}
 use Rattle.files.specs.StoreLaws.{Storing, none-stored, some-stored, all-stored, items-next, items-none}
 use Rattle.files.proofs.records.put_records.Statement.{statement}
@@ -44,7 +43,9 @@ next : {old : List ℕ} {at k : ℕ} {runs rates depths new : List ℕ} {place i
 next {k = k} {runs = runs} {rates = rates} {depths = depths} {i = i} p l new′ e =
     record {
       place = omega (arith, p .place);
-      stored = some-stored (p .stored) (recordBytes (listed runs rates depths i)) _ new′ 12 (length-all (bytesOf 4) 4 (length-bytes 4) _) (left-next k runs rates depths i l) e;
+      stored =
+          some-stored (p .stored) (recordBytes (listed runs rates depths i)) _ new′ 12
+          (length-record (listed runs rates depths i)) (left-next k runs rates depths i l) e;
     }
 
 abbrev Inv-loop : tie.InvT-loop
@@ -53,8 +54,8 @@ Inv-loop bytes₀ at buckets runs rates depths next₀ i₀ bytes next i = Putti
 abbrev μ-loop : tie.MeasureT-loop
 μ-loop bytes₀ at buckets runs rates depths next₀ i₀ bytes next i = buckets - i
 
-room : (s : tie.Start Inv-loop μ-loop) → let a = s .args in (a .buckets ≤ length (a .runs .now)) × (a .buckets ≤ length (a .rates .now)) × (a .buckets ≤ length (a .depths .now))
-room s = let a = s .args in room-parts (a .buckets) (a .runs .now) (a .rates .now) (a .depths .now) (s .pre .1)
+room : (s : tie.Start Inv-loop μ-loop) → let a = s .args in Rooms (a .buckets) (a .runs .now) (a .rates .now) (a .depths .now)
+room s = let a = s .args in rooms (a .buckets) (a .runs .now) (a .rates .now) (a .depths .now) (s .pre .1)
 
 loop-holds : tie.Need-loop-holds Inv-loop μ-loop
 loop-holds c = begin _ _ _ _ _ _
@@ -63,28 +64,41 @@ mul-t11 : tie.Need-mul-t11 Inv-loop μ-loop
 mul-t11 c = search needs
 
 shared-slice-read-t13 : tie.Need-shared-slice-read-t13 Inv-loop μ-loop
-shared-slice-read-t13 c = let i = c .before in omega (arith, i .loop-test .taken, room (i .before .before .before .before .before .before) .0)
+shared-slice-read-t13 c =
+    let i = c .before in
+    omega (arith, i .loop-test .taken, room (i .before .before .before .before .before .before) .first)
 
 mul-t14 : tie.Need-mul-t14 Inv-loop μ-loop
 mul-t14 c = search needs
 
 shared-slice-read-t16 : tie.Need-shared-slice-read-t16 Inv-loop μ-loop
-shared-slice-read-t16 c = let i = c .before .before in omega (arith, i .loop-test .taken, room (i .before .before .before .before .before .before) .1)
+shared-slice-read-t16 c =
+    let i = c .before .before in
+    omega (arith, i .loop-test .taken, room (i .before .before .before .before .before .before) .second)
 
 mul-t17 : tie.Need-mul-t17 Inv-loop μ-loop
 mul-t17 c = search needs
 
 shared-slice-read-t19 : tie.Need-shared-slice-read-t19 Inv-loop μ-loop
-shared-slice-read-t19 c = let i = c .before .before .before in omega (arith, i .loop-test .taken, room (i .before .before .before .before .before .before) .2)
+shared-slice-read-t19 c =
+    let i = c .before .before .before in
+    omega (arith, i .loop-test .taken, room (i .before .before .before .before .before .before) .third)
 
 slice-aggregate-put-words : tie.Need-slice-aggregate-put-words Inv-loop μ-loop
 slice-aggregate-put-words c = search needs
 
 put-words-requires : tie.Need-put-words-requires Inv-loop μ-loop
-put-words-requires c κs = let i = c .before .before .before .before .before in let s = i .before .before .before .before .before .before in let p = i .before .loop .inv in omega (arith, p .place, p .stored .same, i .loop-test .taken, s .pre .0)
+put-words-requires c κs =
+    let i = c .before .before .before .before .before in
+    let s = i .before .before .before .before .before .before in
+    let p = i .before .loop .inv in
+    omega (arith, p .place, p .stored .same, i .loop-test .taken, s .pre .0)
 
 add-next : tie.Need-add-next Inv-loop μ-loop
-add-next c = let i = c .before .before .before .before .before .before .before .before in let s = i .before .before .before .before .before .before in omega (arith, i .before .loop .inv .place, i .loop-test .taken, s .pre .0, s .good .0 .0)
+add-next c =
+    let i = c .before .before .before .before .before .before .before .before in
+    let s = i .before .before .before .before .before .before in
+    omega (arith, i .before .loop .inv .place, i .loop-test .taken, s .pre .0, s .good .0 .0)
 
 add-i : tie.Need-add-i Inv-loop μ-loop
 add-i c = search needs
@@ -93,7 +107,9 @@ loop-less : tie.Need-loop-less Inv-loop μ-loop
 loop-less c = search needs
 
 loop-again : tie.Need-loop-again Inv-loop μ-loop
-loop-again c = let i = c .before .before .before .before .before .before .before .before in next (i .before .loop .inv) (i .loop-test .taken) _ (c .before .before .put-words .ensures)
+loop-again c =
+    let i = c .before .before .before .before .before .before .before .before in
+    next (i .before .loop .inv) (i .loop-test .taken) _ (c .before .before .put-words .ensures)
 
 same-length : tie.Need-same-length Inv-loop μ-loop
 same-length c = c .before .loop .inv .stored .same

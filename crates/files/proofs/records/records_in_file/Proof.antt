@@ -24,7 +24,9 @@ loop-holds : tie.Need-loop-holds Inv-loop μ-loop
 loop-holds c = record { place = omega arith; weighed = none-weighed _ 12 _ bucketsOffset }
 
 record-at-requires : tie.Need-record-at-requires Inv-loop μ-loop
-record-at-requires c κs = let s = c .before .before .before in omega (arith, c .before .loop .inv .place, c .loop-test .taken, s .pre .0)
+record-at-requires c κs =
+    let s = c .before .before .before in
+    omega (arith, c .before .loop .inv .place, c .loop-test .taken, s .pre .0)
 
 push-requires : tie.Need-push-requires Inv-loop μ-loop
 push-requires c κs =

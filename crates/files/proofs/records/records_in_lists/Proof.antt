@@ -1,10 +1,9 @@
 -- The records from the one reached on are left to be weighed.
-use Prim.Native.Nat.{_-_, _≤_}
+use Prim.Native.Nat.{_-_}
 use native.Mathlib.Omega.{arith}
 use mathlib.Core.Path.{_∙_}
 use borrow.Author.Needs.{needs}
-use lib.ListN.{length}
-use Rattle.terms.specs.LentLaws.{room-parts}
+use Rattle.terms.specs.LentLaws.{Rooms, rooms}
 use Rattle.files.specs.Plan.{listed}
 use Rattle.files.specs.RecordLaws.{Weighed, none-weighed, one-weighed, all-weighed}
 use Rattle.files.proofs.records.records_in_lists.Statement.{statement}
@@ -16,8 +15,8 @@ Inv-loop periods buckets runs rates depths tally₀ i₀ tally i = Weighed (list
 abbrev μ-loop : tie.MeasureT-loop
 μ-loop periods buckets runs rates depths tally₀ i₀ tally i = buckets - i
 
-room : (s : tie.Start Inv-loop μ-loop) → let a = s .args in (a .buckets ≤ length (a .runs .now)) × (a .buckets ≤ length (a .rates .now)) × (a .buckets ≤ length (a .depths .now))
-room s = let a = s .args in room-parts (a .buckets) (a .runs .now) (a .rates .now) (a .depths .now) (s .pre .0)
+room : (s : tie.Start Inv-loop μ-loop) → let a = s .args in Rooms (a .buckets) (a .runs .now) (a .rates .now) (a .depths .now)
+room s = let a = s .args in rooms (a .buckets) (a .runs .now) (a .rates .now) (a .depths .now) (s .pre .0)
 
 loop-holds : tie.Need-loop-holds Inv-loop μ-loop
 loop-holds c = none-weighed _ 1 _ 0
@@ -26,19 +25,25 @@ mul-record-of : tie.Need-mul-record-of Inv-loop μ-loop
 mul-record-of c = search needs
 
 shared-slice-read-record-of : tie.Need-shared-slice-read-record-of Inv-loop μ-loop
-shared-slice-read-record-of c = let i = c .before in omega (arith, i .loop-test .taken, room (i .before .before .before .before .before) .0)
+shared-slice-read-record-of c =
+    let i = c .before in
+    omega (arith, i .loop-test .taken, room (i .before .before .before .before .before) .first)
 
 mul-record-of-2 : tie.Need-mul-record-of-2 Inv-loop μ-loop
 mul-record-of-2 c = search needs
 
 shared-slice-read-record-of-2 : tie.Need-shared-slice-read-record-of-2 Inv-loop μ-loop
-shared-slice-read-record-of-2 c = let i = c .before .before in omega (arith, i .loop-test .taken, room (i .before .before .before .before .before) .1)
+shared-slice-read-record-of-2 c =
+    let i = c .before .before in
+    omega (arith, i .loop-test .taken, room (i .before .before .before .before .before) .second)
 
 mul-record-of-3 : tie.Need-mul-record-of-3 Inv-loop μ-loop
 mul-record-of-3 c = search needs
 
 shared-slice-read-record-of-3 : tie.Need-shared-slice-read-record-of-3 Inv-loop μ-loop
-shared-slice-read-record-of-3 c = let i = c .before .before .before in omega (arith, i .loop-test .taken, room (i .before .before .before .before .before) .2)
+shared-slice-read-record-of-3 c =
+    let i = c .before .before .before in
+    omega (arith, i .loop-test .taken, room (i .before .before .before .before .before) .third)
 
 record-of-requires : tie.Need-record-of-requires Inv-loop μ-loop
 record-of-requires c κs = search needs

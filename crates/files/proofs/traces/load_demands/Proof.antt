@@ -38,7 +38,8 @@ module _ (part old new : List ℕ) (at i : ℕ) (l : Loading part old new at i) 
         place = omega (arith, l .place);
         stored =
             one-stored (l .stored) d _
-            (items-next (numberAt 2 part) 2 (length part / 2) i at h ∙ ap (λ (x : ℕ). x ∷ itemsAt (numberAt 2 part) 2 (length part / 2 - (i + 1)) (at + 2)) (sym e));
+            (items-next (numberAt 2 part) 2 (length part / 2) i at h
+            ∙ ap (λ (x : ℕ). x ∷ itemsAt (numberAt 2 part) 2 (length part / 2 - (i + 1)) (at + 2)) (sym e));
       }
 
   end : length part / 2 ≤ i → new ≡ sets old 0 (demandsIn part)
@@ -63,7 +64,9 @@ mul-demands : tie.Need-mul-demands Inv-loop μ-loop
 mul-demands c = search needs
 
 slice-write-demands : tie.Need-slice-write-demands Inv-loop μ-loop
-slice-write-demands c = let s = c .before .before .before .before .before in room _ _ _ _ _ (c .before .before .loop .inv) (c .before .loop-test .taken) (s .pre)
+slice-write-demands c =
+    let s = c .before .before .before .before .before in
+    room _ _ _ _ _ (c .before .before .loop .inv) (c .before .loop-test .taken) (s .pre)
 
 add-at : tie.Need-add-at Inv-loop μ-loop
 add-at c =

@@ -26,10 +26,16 @@ cast-put-number : tie.Need-cast-put-number Inv-loop μ-loop
 cast-put-number c = omega (arith, c .shared-slice-known2 .given (c .before .before .before .loop .i))
 
 put-number-requires : tie.Need-put-number-requires Inv-loop μ-loop
-put-number-requires c κs = let s = c .before .before .before .before .before .before in put-inside (c .before .before .before .loop .inv) (c .before .before .loop-test .taken) (s .pre)
+put-number-requires c κs =
+    let s = c .before .before .before .before .before .before in
+    put-inside (c .before .before .before .loop .inv) (c .before .before .loop-test .taken) (s .pre)
 
 add-next : tie.Need-add-next Inv-loop μ-loop
-add-next c = let d = c .before .before .before .before .before in let s = d .before .before .before .before in let h = put-inside (d .before .loop .inv) (d .loop-test .taken) (s .pre) in omega (arith, s .good .0 .0, d .before .loop .inv .stored .same)
+add-next c =
+    let d = c .before .before .before .before .before in
+    let s = d .before .before .before .before in
+    let h = put-inside (d .before .loop .inv) (d .loop-test .taken) (s .pre) in
+    omega (arith, s .good .0 .0, d .before .loop .inv .stored .same)
 
 add-i : tie.Need-add-i Inv-loop μ-loop
 add-i c = search needs

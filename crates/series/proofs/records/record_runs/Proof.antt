@@ -9,7 +9,7 @@ use Rattle.terms.specs.Records.{Cutting, runDepth, runLength, runRate}
 use Rattle.series.specs.SeriesLaws.{IsSeries, series-is}
 use Rattle.terms.specs.Answer.{Answer, figures}
 use Rattle.terms.specs.AnswerLaws.{same-figures}
-use Rattle.terms.specs.LentLaws.{room-parts}
+use Rattle.terms.specs.LentLaws.{rooms}
 use Rattle.terms.specs.RangeLaws.{PeriodsRange}
 use Rattle.terms.specs.declared.Bucket.{Bucket}
 use Rattle.terms.specs.declared.BucketRecord.{BucketRecord}
@@ -85,16 +85,16 @@ module _ (t : Tariff) (ds runs₀ rates₀ depths₀ runs rates depths : List �
 
     k-room : length ds ≤ roomOf runs₀ rates₀ depths₀ → (k < length runs) × (k < length rates) × (k < length depths)
     k-room m =
-        let room = room-parts (length ds) runs₀ rates₀ depths₀ m in (
-          omega (arith, next .more, r .few, room .0, r .runs-stored .same),
-          omega (arith, next .more, r .few, room .1, r .rates-stored .same),
-          omega (arith, next .more, r .few, room .2, r .depths-stored .same),
+        let room = rooms (length ds) runs₀ rates₀ depths₀ m in (
+          omega (arith, next .more, r .few, room .first, r .runs-stored .same),
+          omega (arith, next .more, r .few, room .second, r .rates-stored .same),
+          omega (arith, next .more, r .few, room .third, r .depths-stored .same),
         )
 
     step : (b : Bucket) → runRecord t part ≡ figures (record { periods = length part; bucket = b }) → length ds ≤ roomOf runs₀ rates₀ depths₀
         → Recording t ds runs₀ rates₀ depths₀ (set runs k (getD firsts start 0)) (set rates k (b .rate .0)) (set depths k (b .depth .0)) (start + getD firsts start 0) (k + 1)
     step b e m =
-        let room = room-parts (length ds) runs₀ rates₀ depths₀ m in
+        let room = rooms (length ds) runs₀ rates₀ depths₀ m in
         let b-is : b ≡ this .bucket = ap (λ (x : BucketRecord). x .bucket) (same-figures (sym e ∙ part-record)) in
         record {
           cut = r .cut;
@@ -103,9 +103,9 @@ module _ (t : Tariff) (ds runs₀ rates₀ depths₀ runs rates depths : List �
           inside = ends;
           so-far = omega (arith, next .more);
           rest = ap (λ (n : ℕ). cheapestCut t (drop (start + n) ds)) length-is ∙ next .onward;
-          runs-stored = stored-next runLength (r .cut) runs₀ runs k _ refl (next .more) (omega (arith, next .more, r .few, room .0)) length-is (r .runs-stored);
-          rates-stored = stored-next runRate (r .cut) rates₀ rates k _ refl (next .more) (omega (arith, next .more, r .few, room .1)) (ap (λ (b : Bucket). b .rate .0) b-is) (r .rates-stored);
-          depths-stored = stored-next runDepth (r .cut) depths₀ depths k _ refl (next .more) (omega (arith, next .more, r .few, room .2)) (ap (λ (b : Bucket). b .depth .0) b-is) (r .depths-stored);
+          runs-stored = stored-next runLength (r .cut) runs₀ runs k _ refl (next .more) (omega (arith, next .more, r .few, room .first)) length-is (r .runs-stored);
+          rates-stored = stored-next runRate (r .cut) rates₀ rates k _ refl (next .more) (omega (arith, next .more, r .few, room .second)) (ap (λ (b : Bucket). b .rate .0) b-is) (r .rates-stored);
+          depths-stored = stored-next runDepth (r .cut) depths₀ depths k _ refl (next .more) (omega (arith, next .more, r .few, room .third)) (ap (λ (b : Bucket). b .depth .0) b-is) (r .depths-stored);
         }
 
   all-stored : length ds ≤ start → k ≡ length (r .cut)
