@@ -38,13 +38,13 @@ orderWords T t =
     orderKind ∷ T ∷ tariffOffset ∷ traceOffset ∷ orderLength T
     ∷ t .«rate_price» .0 ∷ t .«depth_price» .0 ∷ t .fee ∷ t .factor .p ∷ t .factor .q ∷ t .«rate_cap» .0 ∷ t .«depth_cap» .0 ∷ []
 
--- The bytes of an order: then demands of 2 bytes.
+-- The bytes of an order: those numbers, then demands of 2 bytes.
 abbrev pub orderBytes : ℕ → Tariff → List ℕ → List ℕ
 orderBytes T t ds = bytesOfAll (bytesOf 4) (orderWords T t) ++ bytesOfAll (bytesOf 2) ds
 
 -- ---- Reading
 
--- The seven figures of the tariff.
+-- The tariff, figure by figure at its place.
 abbrev pub tariffIn : List ℕ → Tariff
 tariffIn bs =
     record {

@@ -42,7 +42,7 @@ planWords T k = planKind ∷ T ∷ k ∷ costOffset ∷ bucketsOffset ∷ planLe
 abbrev pub recordBytes : BucketRecord → List ℕ
 recordBytes x = bytesOfAll (bytesOf 4) (runLength x ∷ runRate x ∷ runDepth x ∷ [])
 
--- The bytes of a plan: then the cost, 8 bytes; then a record per bucket.
+-- The bytes of a plan: those numbers, then the cost, 8 bytes, then a record per bucket.
 abbrev pub planBytes : ℕ → ℕ → Cutting → List ℕ
 planBytes T cost xs = bytesOfAll (bytesOf 4) (planWords T (length xs)) ++ bytesOf 8 cost ++ bytesOfAll recordBytes xs
 
@@ -77,6 +77,7 @@ recordOf n r B = record { periods = n; bucket = record { rate = record { 0 = r }
 abbrev pub recordAt : List ℕ → ℕ → BucketRecord
 recordAt bs at = recordOf (numberAt 4 bs at) (numberAt 4 bs (at + 4)) (numberAt 4 bs (at + 8))
 
+-- k records, from the offset of buckets on.
 abbrev pub recordsIn : ℕ → List ℕ → Cutting
 recordsIn k bs = itemsAt (recordAt bs) 12 k bucketsOffset
 
@@ -99,6 +100,7 @@ abbrev pub fitting : ℕ → Answer Recorded → Answer Recorded
 fitting room (figures x) = weigh (leb (length (x .buckets)) room) 6 (figures x)
 fitting room (refused n) = refused n
 
+-- What reading gives with room for so many records.
 abbrev pub readPlan : ℕ → List ℕ → Answer Recorded
 readPlan room bs = fitting room (planIn bs)
 
