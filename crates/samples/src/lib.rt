@@ -1,4 +1,7 @@
-// The tariffs, traces and plain searches that the test programs share. For them alone.
+// The tariffs, traces, lent lists, file bytes and plain searches that the test programs share. For
+// them alone.
+pub mod files;
+pub mod lists;
 pub mod plain;
 pub mod small;
 pub mod tariffs;

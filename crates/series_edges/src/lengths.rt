@@ -1,8 +1,8 @@
 // Lists of as many entries as periods and of more, and traces of 1 and of 512 periods.
 use crate::lists::edge;
 use crate::lists::edge_in;
-use crate::lists::lent;
-use crate::lists::of_each;
+use samples::lists::lent;
+use samples::lists::of_each;
 use samples::tariffs::caps_of;
 use samples::tariffs::full;
 use samples::tariffs::prices_of;

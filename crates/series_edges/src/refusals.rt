@@ -1,8 +1,8 @@
 // Each refusal, and the lowest number where several apply.
 use crate::lists::edge;
 use crate::lists::edge_in;
-use crate::lists::lent;
-use crate::lists::of_each;
+use samples::lists::lent;
+use samples::lists::of_each;
 use samples::tariffs::caps_of;
 use samples::tariffs::from_empty;
 use samples::tariffs::printed;

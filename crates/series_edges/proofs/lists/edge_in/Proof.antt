@@ -14,14 +14,14 @@ filled-requires-2 c κs = search needs
 filled-requires-3 : tie.Need-filled-requires-3
 filled-requires-3 c κs = search needs
 
-or-all-requires : tie.Need-or-all-requires
-or-all-requires c κs = search needs
+at-most-requires : tie.Need-at-most-requires
+at-most-requires c κs = search needs
 
-or-all-requires-2 : tie.Need-or-all-requires-2
-or-all-requires-2 c κs = search needs
+at-most-requires-2 : tie.Need-at-most-requires-2
+at-most-requires-2 c κs = search needs
 
-or-all-requires-3 : tie.Need-or-all-requires-3
-or-all-requires-3 c κs = search needs
+at-most-requires-3 : tie.Need-at-most-requires-3
+at-most-requires-3 c κs = search needs
 
 array-borrow-prefix-runs : tie.Need-array-borrow-prefix-runs
 array-borrow-prefix-runs c = search needs
@@ -59,20 +59,8 @@ series-requires-2 c κs = search needs
 buckets-of-requires : tie.Need-buckets-of-requires
 buckets-of-requires c κs = search needs
 
-print-buckets-requires : tie.Need-print-buckets-requires
-print-buckets-requires c κs = search needs
-
-is-kept-requires : tie.Need-is-kept-requires
-is-kept-requires c κs = search needs
-
-is-kept-requires-2 : tie.Need-is-kept-requires-2
-is-kept-requires-2 c κs = search needs
-
-is-kept-requires-3 : tie.Need-is-kept-requires-3
-is-kept-requires-3 c κs = search needs
-
-print-kept-requires : tie.Need-print-kept-requires
-print-kept-requires c κs = search needs
+print-lists-requires : tie.Need-print-lists-requires
+print-lists-requires c κs = search needs
 
 returns : tie.Need-returns
 returns c = search needs
@@ -84,9 +72,9 @@ edge-in-spec =
     filled-requires
     filled-requires-2
     filled-requires-3
-    or-all-requires
-    or-all-requires-2
-    or-all-requires-3
+    at-most-requires
+    at-most-requires-2
+    at-most-requires-3
     array-borrow-prefix-runs
     slice-aggregate-series
     array-borrow-prefix-rates
@@ -99,9 +87,5 @@ edge-in-spec =
     words-requires-2
     series-requires-2
     buckets-of-requires
-    print-buckets-requires
-    is-kept-requires
-    is-kept-requires-2
-    is-kept-requires-3
-    print-kept-requires
+    print-lists-requires
     returns)

@@ -1,8 +1,8 @@
 -- Each entry is written once; nothing is asked of what is written.
 use Prim.Native.Nat.{_-_, _≤_}
 use borrow.Author.Needs.{needs}
-use Rattle.series_edges.proofs.lists.filled.Statement.{statement}
-use Rattle.series_edges.proofs.lists.filled.Tie as tie
+use Rattle.samples.proofs.lists.filled.Statement.{statement}
+use Rattle.samples.proofs.lists.filled.Tie as tie
 
 abbrev Inv-loop : tie.InvT-loop
 Inv-loop from list₀ i₀ list i = i ≤ 516

@@ -1,8 +1,8 @@
 -- Each entry from the start on is compared at most once.
 use Prim.Native.Nat.{_-_, _≤_}
 use borrow.Author.Needs.{needs}
-use Rattle.series_edges.proofs.lists.is_kept.Statement.{statement}
-use Rattle.series_edges.proofs.lists.is_kept.Tie as tie
+use Rattle.samples.proofs.lists.is_kept.Statement.{statement}
+use Rattle.samples.proofs.lists.is_kept.Tie as tie
 
 abbrev Inv-loop : tie.InvT-loop
 Inv-loop list from start i₀ i = start ≤ i
