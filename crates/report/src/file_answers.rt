@@ -18,6 +18,14 @@ pub fn fill(a: FillAnswer) {
     }
 }
 
+// How many entries or bytes were filled; none on a refusal.
+pub fn filled_of(a: FillAnswer) -> usize {
+    match a {
+        FillAnswer::Filled(n) => n,
+        FillAnswer::Refused(_) => 0,
+    }
+}
+
 // An order's number of periods and its tariff, or the refusal.
 pub fn order(a: OrderAnswer) {
     match a {
@@ -30,7 +38,7 @@ pub fn order(a: OrderAnswer) {
 }
 
 // The seven figures, in document 01's order.
-fn tariff(t: Tariff) {
+pub fn tariff(t: Tariff) {
     figure(b" rate price", t.rate_price.0);
     figure(b" depth price", t.depth_price.0);
     figure(b" fee", t.fee);

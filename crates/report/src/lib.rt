@@ -2,20 +2,23 @@
 // program writes, so each program's output is held to a stored one.
 mod file_answers;
 mod file_bytes;
+mod lent_lists;
 
 use bucket::TrialAnswer;
 use depth::DepthAnswer;
 pub use file_answers::fill;
+pub use file_answers::filled_of;
 pub use file_answers::order;
 pub use file_answers::plan;
+pub use file_answers::tariff;
 pub use file_bytes::hex_lines;
+pub use file_bytes::written;
+pub use lent_lists::kept;
+pub use lent_lists::lists;
 use libc::STDOUT_FILENO;
 use series::SeriesAnswer;
 use single::SingleAnswer;
-use terms::Bucket;
 use terms::BucketRecord;
-use terms::Depth;
-use terms::Rate;
 use terms::Refusal;
 ghost use mathlib.Core.Path.{_≡_};
 ghost use lib.IntN.{natAbs};
@@ -130,34 +133,4 @@ pub fn record(x: BucketRecord) {
     number(x.bucket.rate.0 as u64);
     words(b" depth");
     number(x.bucket.depth.0 as u64);
-}
-
-// The first three buckets of a plan and the last, from lists of run lengths, rates and depths.
-pub fn buckets(runs: &[u32], rates: &[u32], depths: &[u32], count: usize) {
-    for i in 0..count {
-        if (i < 3) | (i + 1 == count) {
-            words(b",");
-            record(BucketRecord {
-                periods: entry(runs, i),
-                bucket: Bucket {
-                    rate: Rate(entry(rates, i)),
-                    depth: Depth(entry(depths, i)),
-                },
-            });
-        }
-    }
-}
-
-// An entry of a list; 0 where there is none.
-fn entry(list: &[u32], i: usize) -> u32 {
-    if i < list.len() { list[i] } else { 0 }
-}
-
-// The end of a line: whether what was lent is as it was, but for what was filled.
-pub fn kept(is_kept: bool) {
-    if is_kept {
-        words(b", kept\n");
-    } else {
-        words(b", touched\n");
-    }
 }

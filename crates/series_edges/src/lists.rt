@@ -4,7 +4,6 @@ use samples::lists::ENTRIES;
 use samples::lists::Lengths;
 use samples::lists::RATES_FROM;
 use samples::lists::RUNS_FROM;
-use samples::lists::are_kept;
 use samples::lists::at_most;
 use samples::lists::filled;
 use samples::lists::of_each;
@@ -35,18 +34,7 @@ pub fn edge_in(name: &[u8], trace: &[u16], tariff: Tariff, lent: Lengths) {
     report::words(name);
     report::words(b":");
     report::series(answer);
-    print_lists(&runs, &rates, &depths, buckets_of(answer));
-}
-
-// The buckets, and whether every entry after them is as it was.
-fn print_lists(
-    runs: &[u32; ENTRIES],
-    rates: &[u32; ENTRIES],
-    depths: &[u32; ENTRIES],
-    buckets: usize,
-) {
-    report::buckets(runs, rates, depths, buckets);
-    report::kept(are_kept(runs, rates, depths, buckets));
+    report::lists(&runs, &rates, &depths, buckets_of(answer));
 }
 
 // The number of buckets; none on a refusal.

@@ -59,8 +59,8 @@ series-requires-2 c κs = search needs
 buckets-of-requires : tie.Need-buckets-of-requires
 buckets-of-requires c κs = search needs
 
-print-lists-requires : tie.Need-print-lists-requires
-print-lists-requires c κs = search needs
+lists-requires : tie.Need-lists-requires
+lists-requires c κs = search needs
 
 returns : tie.Need-returns
 returns c = search needs
@@ -87,5 +87,5 @@ edge-in-spec =
     words-requires-2
     series-requires-2
     buckets-of-requires
-    print-lists-requires
+    lists-requires
     returns)

@@ -1,20 +1,20 @@
 -- Each byte from the start on is compared at most once.
 use Prim.Native.Nat.{_-_, _≤_}
 use borrow.Author.Needs.{needs}
-use Rattle.samples.proofs.files.is_lent.Statement.{statement}
-use Rattle.samples.proofs.files.is_lent.Tie as tie
+use Rattle.samples.proofs.file_bytes.is_lent.Statement.{statement}
+use Rattle.samples.proofs.file_bytes.is_lent.Tie as tie
 
 abbrev Inv-loop : tie.InvT-loop
-Inv-loop bytes start i₀ i-end i = start ≤ i
+Inv-loop bytes start i₀ i = start ≤ i
 
 abbrev μ-loop : tie.MeasureT-loop
-μ-loop bytes start i₀ i-end i = i-end - i
+μ-loop bytes start i₀ i = 6184 - i
 
 loop-holds : tie.Need-loop-holds Inv-loop μ-loop
 loop-holds c = search needs
 
-shared-slice-read-if1 : tie.Need-shared-slice-read-if1 Inv-loop μ-loop
-shared-slice-read-if1 c = search needs
+element-copy-out-if1 : tie.Need-element-copy-out-if1 Inv-loop μ-loop
+element-copy-out-if1 c = search needs
 
 returns : tie.Need-returns Inv-loop μ-loop
 returns c = search needs
@@ -38,7 +38,7 @@ is-lent-spec =
     Inv-loop
     μ-loop
     loop-holds
-    shared-slice-read-if1
+    element-copy-out-if1
     returns
     add-i
     loop-less

@@ -1,14 +1,14 @@
--- Each bucket is looked at once.
+-- Each entry is looked at once.
 use Prim.Native.Nat.{_-_, _≤_}
 use borrow.Author.Needs.{needs}
-use Rattle.report.proofs.buckets.Statement.{statement}
-use Rattle.report.proofs.buckets.Tie as tie
+use Rattle.report.proofs.lent_lists.print_buckets.Statement.{statement}
+use Rattle.report.proofs.lent_lists.print_buckets.Tie as tie
 
 abbrev Inv-loop : tie.InvT-loop
-Inv-loop runs rates depths count i₀ t6 i = i ≤ count
+Inv-loop runs rates depths buckets i₀ t6 i = i ≤ 516
 
 abbrev μ-loop : tie.MeasureT-loop
-μ-loop runs rates depths count i₀ t6 i = count - i
+μ-loop runs rates depths buckets i₀ t6 i = 516 - i
 
 loop-holds : tie.Need-loop-holds Inv-loop μ-loop
 loop-holds c = search needs
@@ -22,14 +22,23 @@ slice-aggregate-words c = search needs
 words-requires : tie.Need-words-requires Inv-loop μ-loop
 words-requires c κs = search needs
 
-entry-requires : tie.Need-entry-requires Inv-loop μ-loop
-entry-requires c κs = search needs
+mul-t16 : tie.Need-mul-t16 Inv-loop μ-loop
+mul-t16 c = search needs
 
-entry-requires-2 : tie.Need-entry-requires-2 Inv-loop μ-loop
-entry-requires-2 c κs = search needs
+element-copy-out-t19 : tie.Need-element-copy-out-t19 Inv-loop μ-loop
+element-copy-out-t19 c = search needs
 
-entry-requires-3 : tie.Need-entry-requires-3 Inv-loop μ-loop
-entry-requires-3 c κs = search needs
+mul-t20 : tie.Need-mul-t20 Inv-loop μ-loop
+mul-t20 c = search needs
+
+element-copy-out-t23 : tie.Need-element-copy-out-t23 Inv-loop μ-loop
+element-copy-out-t23 c = search needs
+
+mul-t25 : tie.Need-mul-t25 Inv-loop μ-loop
+mul-t25 c = search needs
+
+element-copy-out-t28 : tie.Need-element-copy-out-t28 Inv-loop μ-loop
+element-copy-out-t28 c = search needs
 
 record-requires : tie.Need-record-requires Inv-loop μ-loop
 record-requires c κs = search needs
@@ -46,8 +55,8 @@ loop-again c = search needs
 returns : tie.Need-returns Inv-loop μ-loop
 returns c = search needs
 
-pub buckets-spec : {M : Type 1} → statement M
-buckets-spec =
+pub print-buckets-spec : {M : Type 1} → statement M
+print-buckets-spec =
     tie.close
     (tie.spec
     Inv-loop
@@ -56,9 +65,12 @@ buckets-spec =
     add-if1
     slice-aggregate-words
     words-requires
-    entry-requires
-    entry-requires-2
-    entry-requires-3
+    mul-t16
+    element-copy-out-t19
+    mul-t20
+    element-copy-out-t23
+    mul-t25
+    element-copy-out-t28
     record-requires
     add-i
     loop-less

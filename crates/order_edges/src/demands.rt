@@ -1,0 +1,90 @@
+// A trace of uneven demands, and the list of demands that spreading is lent.
+use files::FillAnswer;
+use samples::lists::at_most;
+ghost use mathlib.Core.Path.{_≡_};
+ghost use lib.ListN.{length};
+
+// As many periods as an order takes.
+pub const PERIODS: usize = 512;
+
+// Some more entries than a trace has periods.
+pub const ENTRIES: usize = 516;
+
+// What the entries of a lent list hold before a call.
+pub const LENT_DEMAND: u16 = 43_690;
+
+// Demands in no order, from 0 to the greatest. The length is promised so that the array can be lent.
+pub fn uneven() -> [u16; PERIODS]
+    ensures { λ r. ⌜ 512 ≡ length r ⌝ }
+{
+    let mut trace = [0u16; PERIODS];
+    for i in 0..PERIODS {
+        trace[i] = (i * 24_691 % 65_536) as u16;
+    }
+    trace[1] = 255;
+    trace[2] = 256;
+    trace[511] = 65_535;
+    trace
+}
+
+// How many demands there are, and the first.
+pub fn print_length(trace: &[u16]) {
+    report::words(b"trace of");
+    report::number(trace.len() as u64);
+    if 0 < trace.len() {
+        report::words(b" from");
+        print_demand(trace[0]);
+    }
+}
+
+pub fn print_demand(d: u16) {
+    report::number(d as u64);
+}
+
+// How many demands were filled and their checksum, or the refusal; then whether every entry after
+// those filled is as it was lent.
+pub fn print_list(answer: FillAnswer, list: &[u16; ENTRIES]) {
+    let count = report::filled_of(answer);
+    report::fill(answer);
+    if 0 < count {
+        report::words(b" checksum");
+        report::number(checksum(list, count) as u64);
+    }
+    report::kept(is_kept(list, count));
+}
+
+// A number that each of the first demands and its place enter.
+fn checksum(list: &[u16; ENTRIES], count: usize) -> u32 {
+    let mut sum: u32 = 0;
+    for i in 0..at_most(count, ENTRIES) {
+        sum = with_demand(sum, list[i]);
+    }
+    sum
+}
+
+fn with_demand(sum: u32, demand: u16) -> u32 {
+    (sum % 1_000_003 * 257 + demand as u32) % 1_000_003
+}
+
+// Whether the entries from one on are as they were lent.
+fn is_kept(list: &[u16; ENTRIES], start: usize) -> bool {
+    for i in start..ENTRIES {
+        if list[i] != LENT_DEMAND {
+            return false;
+        }
+    }
+    true
+}
+
+// Whether the trace stands at the front of the list.
+pub fn is_front(trace: &[u16], list: &[u16; ENTRIES]) -> bool {
+    for i in 0..trace.len() {
+        if ENTRIES <= i {
+            return false;
+        }
+        if list[i] != trace[i] {
+            return false;
+        }
+    }
+    true
+}
