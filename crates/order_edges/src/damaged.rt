@@ -28,6 +28,7 @@ pub fn edges() {
     factors_and_caps();
     two_at_once();
     all_at_once();
+    megabyte();
 }
 
 // What reading a file gives, and the length of its trace's part.
@@ -187,4 +188,10 @@ fn all_at_once() {
     cut(kinds, 20);
     report::words(b"all this, ");
     cut(kinds, 19);
+}
+
+// A megabyte of 0.
+fn megabyte() {
+    let bytes = [0u8; 1_048_576];
+    reading(&bytes);
 }
