@@ -27,6 +27,15 @@ pub fn uneven() -> [u16; PERIODS]
     trace
 }
 
+// The first entries of a list, to be written to; all where there are fewer.
+pub fn lent_entries(list: &mut [u16], entries: usize) -> &mut [u16] {
+    if entries <= list.len() {
+        &mut list[..entries]
+    } else {
+        list
+    }
+}
+
 // How many demands there are, and the first.
 pub fn print_length(trace: &[u16]) {
     report::words(b"trace of");

@@ -1,10 +1,10 @@
 // Parts of every kind of length spread into lists that are too short, just long enough and longer.
 use crate::demands::ENTRIES;
 use crate::demands::LENT_DEMAND;
+use crate::demands::lent_entries;
 use crate::demands::print_list;
 use files::spread;
 use samples::file_bytes::front;
-use samples::lists::at_most;
 ghost use mathlib.Core.Path.{_≡_};
 ghost use lib.ListN.{length};
 
@@ -42,8 +42,7 @@ pub fn edges() {
 fn edge(part: usize, list: usize) {
     let bytes = part_bytes();
     let mut demands = [LENT_DEMAND; ENTRIES];
-    let m = at_most(list, ENTRIES);
-    let answer = spread(front(&bytes, part), &mut demands[..m]);
+    let answer = spread(front(&bytes, part), lent_entries(&mut demands, list));
     report::words(b"part of");
     report::number(part as u64);
     report::words(b" in a list of");

@@ -1,6 +1,8 @@
 // Lists of numbers that a call is lent, filled beforehand with numbers that all differ, and
 // compared afterwards.
 ghost use Prim.Native.Nat.{_≤_};
+ghost use mathlib.Core.Path.{_≡_};
+ghost use lib.ListN.{length};
 
 // Some more entries than the longest trace has periods.
 pub const ENTRIES: usize = 516;
@@ -37,9 +39,28 @@ pub fn at_most(n: usize, most: usize) -> usize
     if n < most { n } else { most }
 }
 
-// The numbers from one on.
+// The first entries, or all where there are fewer.
+pub fn first_entries(list: &[u32], entries: usize) -> &[u32] {
+    if entries <= list.len() {
+        &list[..entries]
+    } else {
+        list
+    }
+}
+
+// The same of a list to be written to.
+pub fn lent_entries(list: &mut [u32], entries: usize) -> &mut [u32] {
+    if entries <= list.len() {
+        &mut list[..entries]
+    } else {
+        list
+    }
+}
+
+// The numbers from one on. The length is promised so that the array can be lent.
 pub fn filled(from: u32) -> [u32; ENTRIES]
     requires { ⌜ from ≤ 30000 ⌝ }
+    ensures { λ r. ⌜ 516 ≡ length r ⌝ }
 {
     let mut list = [0u32; ENTRIES];
     for i in 0..ENTRIES {

@@ -4,8 +4,8 @@ use samples::lists::ENTRIES;
 use samples::lists::Lengths;
 use samples::lists::RATES_FROM;
 use samples::lists::RUNS_FROM;
-use samples::lists::at_most;
 use samples::lists::filled;
+use samples::lists::lent_entries;
 use samples::lists::of_each;
 use series::SeriesAnswer;
 use series::series;
@@ -21,15 +21,12 @@ pub fn edge_in(name: &[u8], trace: &[u16], tariff: Tariff, lent: Lengths) {
     let mut runs = filled(RUNS_FROM);
     let mut rates = filled(RATES_FROM);
     let mut depths = filled(DEPTHS_FROM);
-    let a = at_most(lent.runs, ENTRIES);
-    let b = at_most(lent.rates, ENTRIES);
-    let c = at_most(lent.depths, ENTRIES);
     let answer = series(
         trace,
         tariff,
-        &mut runs[..a],
-        &mut rates[..b],
-        &mut depths[..c],
+        lent_entries(&mut runs, lent.runs),
+        lent_entries(&mut rates, lent.rates),
+        lent_entries(&mut depths, lent.depths),
     );
     report::words(name);
     report::words(b":");

@@ -1,11 +1,13 @@
--- Each entry is written once; nothing is asked of what is written.
+-- Each entry is written once; the length stays.
 use Prim.Native.Nat.{_-_, _≤_}
+use mathlib.Core.Path.{_≡_}
+use lib.ListN.{length}
 use borrow.Author.Needs.{needs}
 use Rattle.samples.proofs.lists.filled.Statement.{statement}
 use Rattle.samples.proofs.lists.filled.Tie as tie
 
 abbrev Inv-loop : tie.InvT-loop
-Inv-loop from list₀ i₀ list i = i ≤ 516
+Inv-loop from list₀ i₀ list i = (i ≤ 516) × (516 ≡ length list)
 
 abbrev μ-loop : tie.MeasureT-loop
 μ-loop from list₀ i₀ list i = 516 - i
