@@ -26,10 +26,8 @@ use samples::lists::of_each;
 
 pub fn edges() {
     lengths();
-    counts();
-    places();
-    costs();
-    records();
+    header();
+    figures();
     two_at_once();
     all_at_once();
 }
@@ -76,7 +74,7 @@ fn lengths() {
 
 // Of the kinds some would be 2 if not all bytes were read, or in another order. For 1073741826
 // buckets the length would be 56 if its sum were cut to 32 bits.
-fn counts() {
+fn header() {
     one(KIND, 0, 56);
     one(KIND, 1, 56);
     one(KIND, 258, 56);
@@ -99,9 +97,6 @@ fn counts() {
     one(BUCKETS, 65_538, 56);
     one(BUCKETS, 1_073_741_826, 56);
     one(BUCKETS, 4_294_967_295, 56);
-}
-
-fn places() {
     one(COST_OFFSET, 23, 56);
     one(COST_OFFSET, 25, 56);
     one(COST_OFFSET, 280, 56);
@@ -113,19 +108,16 @@ fn places() {
     one(LENGTH, 312, 56);
 }
 
-// Costs 0, 2³² + 40, at their limit, one past it, 2⁴⁸ above it, and as great as 8 bytes hold.
-fn costs() {
+// Costs 0, 2³² + 40, at the limit, one past it, 2⁴⁸ above it, and as great as 8 bytes hold. Run
+// lengths of 0 with the right sum; sums one off, and such as would be 3 if cut to 32 bits. Rates
+// and depths at their limits and past them.
+fn figures() {
     one(COST, 0, 56);
     one(COST_ABOVE, 1, 56);
     two(COST, 276_447_232, COST_ABOVE, 23_283, 56);
     two(COST, 276_447_233, COST_ABOVE, 23_283, 56);
     two(COST, 276_447_232, COST_ABOVE, 88_819, 56);
     two(COST, 4_294_967_295, COST_ABOVE, 4_294_967_295, 56);
-}
-
-// Run lengths of 0 with the right sum; sums one off, and such as would be 3 if cut to 32 bits;
-// rates and depths at their limits and past them.
-fn records() {
     two(RUN, 1, LAST_RUN, 2, 56);
     two(RUN, 0, LAST_RUN, 3, 56);
     two(RUN, 3, LAST_RUN, 0, 56);

@@ -26,8 +26,8 @@ pub fn edges() {
     again(bytes);
 }
 
-// The plan written into so many bytes: runs of one period, rates from 3,500 on and depths from
-// 30,000 on.
+// The plan written into so many bytes: runs of one period, rates from 3,500 on and depths from 700
+// on.
 fn written(length: usize) -> [u8; LENT_BYTES] {
     let plan = PlanFigures {
         periods: 512,
@@ -36,7 +36,7 @@ fn written(length: usize) -> [u8; LENT_BYTES] {
     };
     let runs = [1u32; ENTRIES];
     let rates = filled(3500);
-    let depths = filled(DEPTHS_FROM);
+    let depths = filled(700);
     let mut bytes = [LENT; LENT_BYTES];
     let answer = write_plan(plan, &runs, &rates, &depths, lent_front(&mut bytes, length));
     report::words(b"512 buckets into");

@@ -35,6 +35,9 @@ pub const LAST_DEPTH: usize = 13;
 
 // What a word is called, its value, and a comma.
 pub fn print_field(at: usize, value: u32) {
+    if LAST_RUN <= at {
+        report::words(b"last ");
+    }
     print_name(at);
     report::number(value as u64);
     report::words(b", ");
@@ -50,11 +53,8 @@ fn print_name(at: usize) {
         LENGTH => report::words(b"length"),
         COST => report::words(b"cost below"),
         COST_ABOVE => report::words(b"cost above"),
-        RUN => report::words(b"run"),
-        RATE => report::words(b"rate"),
-        DEPTH => report::words(b"depth"),
-        LAST_RUN => report::words(b"last run"),
-        LAST_RATE => report::words(b"last rate"),
-        _ => report::words(b"last depth"),
+        RUN | LAST_RUN => report::words(b"run"),
+        RATE | LAST_RATE => report::words(b"rate"),
+        _ => report::words(b"depth"),
     }
 }

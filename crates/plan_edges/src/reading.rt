@@ -4,6 +4,7 @@ use crate::plan::COST_ABOVE;
 use crate::plan::LAST_DEPTH;
 use crate::plan::PLAN;
 use crate::plan::RUN;
+use crate::plan::print_field;
 use files::PlanAnswer;
 use files::read_plan;
 use samples::file_bytes::WORDS;
@@ -31,10 +32,15 @@ pub fn edges() {
     edge(file, 56, of_each(0));
     edge(file, 23, of_each(1));
     edge(file, 55, of_each(1));
-    edge(with_word(file, BUCKETS, 4), 56, of_each(1));
-    edge(with_word(file, COST_ABOVE, 23_284), 56, of_each(1));
-    edge(with_word(file, LAST_DEPTH, 1_000_001), 56, of_each(1));
-    edge(with_word(file, RUN, 1), 56, of_each(0));
+    changed(BUCKETS, 4, of_each(1));
+    changed(COST_ABOVE, 23_284, of_each(1));
+    changed(LAST_DEPTH, 1_000_001, of_each(1));
+    changed(RUN, 1, of_each(0));
+}
+
+fn changed(at: usize, value: u32, lent: Lengths) {
+    print_field(at, value);
+    edge(with_word(PLAN, at, value), 56, lent);
 }
 
 // One edge: the front of a file of these words, read into lists of these lengths.
