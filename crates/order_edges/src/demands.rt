@@ -1,5 +1,5 @@
 // A trace of uneven demands, and the list of demands that spreading is lent.
-use files::FillAnswer;
+use encoding::FillAnswer;
 use samples::lists::at_most;
 ghost use mathlib.Core.Path.{_≡_};
 ghost use lib.ListN.{length};

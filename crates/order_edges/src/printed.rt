@@ -1,9 +1,9 @@
 // The printed case's order: written, shown byte by byte, read and spread.
 use crate::damaged::reading;
 use crate::demands::print_demand;
-use files::spread;
-use files::trace_part;
-use files::write_order;
+use orders::spread;
+use orders::trace_part;
+use orders::write_order;
 use samples::file_bytes::FILE_ROOM;
 use samples::file_bytes::LENT;
 use samples::file_bytes::front;

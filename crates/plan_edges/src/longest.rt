@@ -1,9 +1,9 @@
 // A plan of 512 periods and 512 buckets, written, read, and written again from what was read.
 use crate::reading::read_into;
-use files::PlanAnswer;
-use files::PlanFigures;
-use files::read_plan;
-use files::write_plan;
+use plans::PlanAnswer;
+use plans::PlanFigures;
+use plans::read_plan;
+use plans::write_plan;
 use samples::file_bytes::LENT;
 use samples::file_bytes::LENT_BYTES;
 use samples::file_bytes::front;

@@ -2,9 +2,9 @@
 use crate::number;
 use crate::refusal;
 use crate::words;
-use files::FillAnswer;
-use files::OrderAnswer;
-use files::PlanAnswer;
+use encoding::FillAnswer;
+use orders::OrderAnswer;
+use plans::PlanAnswer;
 use terms::Tariff;
 
 // How many entries or bytes were filled, or the refusal.

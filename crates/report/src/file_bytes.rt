@@ -5,7 +5,7 @@ use crate::file_answers::filled_of;
 use crate::lent_lists::kept;
 use crate::number;
 use crate::words;
-use files::FillAnswer;
+use encoding::FillAnswer;
 use libc::STDOUT_FILENO;
 use samples::file_bytes::LENT_BYTES;
 use samples::file_bytes::checksum;

@@ -1,0 +1,4 @@
+-- The definitions that contracts cite, and their laws.
+pub mod Order
+pub mod OrderRules
+pub mod OrderLaws

@@ -1,0 +1,5 @@
+-- The definitions that contracts cite, and their laws.
+pub mod Plan
+pub mod RecordLaws
+pub mod PlanRules
+pub mod PlanLaws
