@@ -2,7 +2,7 @@
 -- Assumes nothing.
 use Prim.Native.Nat.{ℕ, zero, suc, _+_, _*_, _/_, _%_, _^_, _≤_, _<_}
 use native.Mathlib.Omega.{arith}
-use native.Mathlib.Nat.{zero-lt-suc, zero-add, div-lt-iff-lt-mul, mod-add-div, add-mul-div-left, add-mul-mod-self-left, div-eq-of-lt, mod-eq-of-lt, pow-suc, one-le-pow, mul-zero, mul-suc, mul-le-mul, le-refl}
+use native.Mathlib.Nat.{zero-lt-suc, zero-add, div-lt-iff-lt-mul, mod-add-div, add-mul-div-left, add-mul-mod-self-left, div-eq-of-lt, mod-eq-of-lt, pow-suc, mul-zero, mul-suc}
 use native.Mathlib.Numerals.{add-one}
 use mathlib.Core.Path.{_≡_, refl, sym, ap, ap₂, subst, _∙_}
 use mathlib.Core.List.{List, [], _∷_, _++_, append-assoc}
@@ -14,7 +14,7 @@ use Rattle.encoding.specs.Number.{bytesOf, valueOf, numberAt, bytesOfAll
 abbrev pub Within : ℕ → ℕ → Type 0
 Within w n = n < 256 ^ w
 
--- Each number of a list has. (Past the end of a list `getD` gives 0.)
+-- Each number of a list has at most w bytes. (Past the end of a list `getD` gives 0.)
 pub record Fit (w : ℕ) (ns : List ℕ) : Type 0 where
   pub each : (i : ℕ) → Within w (getD ns i 0)
 
@@ -57,17 +57,6 @@ bytes-value (suc w) (b ∷ bs) h l =
     ∙ ap (λ (x : ℕ). b ∷ bytesOf w x) high
     ∙ ap (λ (ys : List ℕ). b ∷ ys) (bytes-value w bs (fit-tail h) (omega arith))
 
-pub value-fits : (w : ℕ) (bs : List ℕ) → Bytes bs → Within w (valueOf (take w bs))
-unfolding valueOf
-value-fits zero bs h = omega arith
-value-fits (suc w) [] h = one-le-pow (suc w) 256 (zero-lt-suc 255)
-value-fits (suc w) (b ∷ bs) h =
-    let v = valueOf (take w bs) in
-    let b-lt : b < 256 = fit-head h in
-    let rest : (v + 1) * 256 ≤ 256 ^ w * 256 = mul-le-mul (subst (λ (n : ℕ). n ≤ 256 ^ w) (sym (add-one v)) (value-fits w bs (fit-tail h))) (le-refl 256) in
-    let e : 256 ^ suc w ≡ 256 ^ w * 256 = pow-suc 256 w in
-    omega arith
-
 -- A number with others before and behind it.
 pub number-written : (w n : ℕ) (before after : List ℕ) → Within w n → numberAt w (before ++ bytesOf w n ++ after) (length before) ≡ n
 number-written w n before after l =
@@ -77,9 +66,6 @@ number-written w n before after l =
 
 pub number-read : (w : ℕ) (bs : List ℕ) (at : ℕ) → Bytes bs → at + w ≤ length bs → bytesOf w (numberAt w bs at) ≡ take w (drop at bs)
 number-read w bs at h l = bytes-value w (drop at bs) (fit-drop bs at h) (omega (arith, length-drop at bs))
-
-pub number-fits : (w : ℕ) (bs : List ℕ) (at : ℕ) → Bytes bs → Within w (numberAt w bs at)
-number-fits w bs at h = value-fits w (drop at bs) (fit-drop bs at h)
 
 -- A number by its first byte and the rest.
 pub number-next : (w : ℕ) (bs : List ℕ) (at : ℕ) → at < length bs → numberAt (suc w) bs at ≡ getD bs at 0 + 256 * numberAt w bs (at + 1)
