@@ -1,9 +1,9 @@
 // The printed case's order: written, shown byte by byte, read and spread.
 use crate::damaged::reading;
 use crate::demands::print_demand;
-use orders::spread;
-use orders::trace_part;
-use orders::write_order;
+use order_file::spread;
+use order_file::trace_part;
+use order_file::write_order;
 use samples::file_bytes::FILE_ROOM;
 use samples::file_bytes::LENT;
 use samples::file_bytes::front;

@@ -3,7 +3,7 @@ use crate::demands::ENTRIES;
 use crate::demands::LENT_DEMAND;
 use crate::demands::lent_entries;
 use crate::demands::print_list;
-use orders::spread;
+use order_file::spread;
 use samples::file_bytes::front;
 ghost use mathlib.Core.Path.{_≡_};
 ghost use lib.ListN.{length};

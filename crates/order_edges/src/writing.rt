@@ -1,7 +1,7 @@
 // Orders written into bytes that are too few, just enough and more; and orders that are refused.
 use crate::demands::print_length;
 use crate::demands::uneven;
-use orders::write_order;
+use order_file::write_order;
 use samples::file_bytes::LENT;
 use samples::file_bytes::LENT_BYTES;
 use samples::file_bytes::lent_front;

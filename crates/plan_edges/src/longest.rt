@@ -1,9 +1,9 @@
 // A plan of 512 periods and 512 buckets, written, read, and written again from what was read.
 use crate::reading::read_into;
-use plans::PlanAnswer;
-use plans::PlanFigures;
-use plans::read_plan;
-use plans::write_plan;
+use plan_file::PlanAnswer;
+use plan_file::PlanFigures;
+use plan_file::read_plan;
+use plan_file::write_plan;
 use samples::file_bytes::LENT;
 use samples::file_bytes::LENT_BYTES;
 use samples::file_bytes::front;

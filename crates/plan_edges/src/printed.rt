@@ -1,7 +1,7 @@
 // The printed case's plan: written, shown byte by byte, and read.
 use crate::reading::read_into;
-use plans::PlanFigures;
-use plans::write_plan;
+use plan_file::PlanFigures;
+use plan_file::write_plan;
 use samples::file_bytes::FILE_ROOM;
 use samples::file_bytes::LENT;
 use samples::file_bytes::front;

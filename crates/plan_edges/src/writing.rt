@@ -1,8 +1,8 @@
 // Plans of up to two buckets written, from lists and into bytes of several lengths. Entries after
 // the two break every rule: no plan that is written holds them.
 use crate::reading::print_lengths;
-use plans::PlanFigures;
-use plans::write_plan;
+use plan_file::PlanFigures;
+use plan_file::write_plan;
 use samples::file_bytes::LENT;
 use samples::file_bytes::LENT_BYTES;
 use samples::file_bytes::lent_front;

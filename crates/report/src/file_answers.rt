@@ -3,8 +3,8 @@ use crate::number;
 use crate::refusal;
 use crate::words;
 use encoding::FillAnswer;
-use orders::OrderAnswer;
-use plans::PlanAnswer;
+use order_file::OrderAnswer;
+use plan_file::PlanAnswer;
 use terms::Tariff;
 
 // How many entries or bytes were filled, or the refusal.

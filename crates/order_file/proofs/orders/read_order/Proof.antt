@@ -1,0 +1,125 @@
+-- Each refusal is the first rule that its test finds broken; past the tests the figures are those of the bytes.
+use Prim.Native.Nat.{ℕ}
+use native.Mathlib.Omega.{arith}
+use mathlib.Core.Path.{_≡_, sym, ap, _∙_}
+use mathlib.Core.Bool.{true}
+use borrow.Author.Tests.{le-leb, lt-leb, eq-eqb, ne-eqb}
+use lib.Dec.{leb, eqb}
+use lib.ListN.{length}
+use Rattle.terms.specs.Bools.{check-passed, check-failed}
+use Rattle.terms.specs.Ranges.{periodsOk, tariffOk}
+use Rattle.encoding.specs.Number.{numberAt}
+use Rattle.encoding.specs.Header.{placedAs}
+use Rattle.encoding.specs.HeaderLaws.{placed-range}
+use Rattle.order_file.specs.Order.{orderKind, orderLength, tariffOffset, traceOffset}
+use Rattle.order_file.specs.OrderRules.{orderPlaced, order-short, order-foreign, order-periods, order-misplaced, order-figure, order-figures}
+use borrow.Author.Needs.{needs}
+use Rattle.order_file.proofs.orders.read_order.Statement.{statement}
+use Rattle.order_file.proofs.orders.read_order.Tie as tie
+
+-- past the first test, past the second, and so on
+long : (c : tie.Else1) → leb tariffOffset (length (c .before .before .args .bytes .now)) ≡ true
+long c = le-leb _ _ (c .if1 .left)
+
+kind : (c : tie.Else2) → eqb (numberAt 4 (c .before .before .before .before .args .bytes .now) 0) orderKind ≡ true
+kind c = eq-eqb _ _ (sym (c .before .word-at .ensures) ∙ c .if2 .left)
+
+counts : (c : tie.Else3) → periodsOk (numberAt 4 (c .before .before .before .before .before .before .before .args .bytes .now) 4) ≡ true
+counts c = ap periodsOk (sym (c .before .before .word-at2 .ensures)) ∙ check-passed (c .before .periods-in-range .ensures) (c .if3 .left)
+
+places : (c : tie.Else4) → orderPlaced (c .before .before .before .before .before .before .before .before .before .args .bytes .now) ≡ true
+places c =
+    let d = c .before .before in
+    let bs = d .before .before .before .before .before .before .before .args .bytes .now in
+    ap (λ (n : ℕ). placedAs 8 tariffOffset traceOffset (orderLength n) bs) (sym (d .before .before .word-at2 .ensures))
+    ∙ check-passed (c .before .placed .ensures) (c .if4 .left)
+
+returns : tie.Need-returns
+returns c = sym (order-short _ (lt-leb _ _ (c .if1 .taken)))
+
+word-at-requires : tie.Need-word-at-requires
+word-at-requires c κs = search needs
+
+returns-2 : tie.Need-returns-2
+returns-2 c = sym (order-foreign _ (long (c .before .before)) (ne-eqb _ _ (λ e. c .if2 .taken (c .before .word-at .ensures ∙ e))))
+
+word-at-requires-2 : tie.Need-word-at-requires-2
+word-at-requires-2 c κs = search needs
+
+cast-periods-in-range : tie.Need-cast-periods-in-range
+cast-periods-in-range c = search needs
+
+periods-in-range-requires : tie.Need-periods-in-range-requires
+periods-in-range-requires c κs = search needs
+
+returns-3 : tie.Need-returns-3
+returns-3 c =
+    let d = c .before .before .before in
+    let e = ap periodsOk (sym (c .before .before .word-at2 .ensures)) ∙ check-failed (c .before .periods-in-range .ensures) (c .if3 .taken) in
+    sym (order-periods _ (long (d .before .before)) (kind d) e)
+
+cast-length : tie.Need-cast-length
+cast-length c = search needs
+
+mul-length : tie.Need-mul-length
+mul-length c = search needs
+
+add-length : tie.Need-add-length
+add-length c = search needs
+
+placed-requires : tie.Need-placed-requires
+placed-requires c κs = search needs
+
+returns-4 : tie.Need-returns-4
+returns-4 c =
+    let d = c .before .before in
+    let k = d .before .before .before in
+    let bs = k .before .before .before .before .args .bytes .now in
+    let e = ap (λ (n : ℕ). placedAs 8 tariffOffset traceOffset (orderLength n) bs) (sym (d .before .before .word-at2 .ensures)) in
+    sym (order-misplaced _ (long (k .before .before)) (kind k) (counts d) (e ∙ check-failed (c .before .placed .ensures) (c .if4 .taken)))
+
+tariff-in-requires : tie.Need-tariff-in-requires
+tariff-in-requires c κs =
+    let bs = c .before .before .before .before .before .before .before .before .before .args .bytes .now in
+    omega (arith, placed-range 8 tariffOffset traceOffset (orderLength (numberAt 4 bs 4)) bs (places c) .bytes)
+
+tariff-in-range-requires : tie.Need-tariff-in-range-requires
+tariff-in-range-requires c κs = search needs
+
+returns-5 : tie.Need-returns-5
+returns-5 c =
+    let p = c .before .before .before in
+    let d = p .before .before in
+    let k = d .before .before .before in
+    let e = ap tariffOk (sym (c .before .before .tariff-in .ensures)) ∙ check-failed (c .before .tariff-in-range .ensures) (c .if5 .taken) in
+    sym (order-figure _ (long (k .before .before)) (kind k) (counts d) (places p) e)
+
+returns-6 : tie.Need-returns-6
+returns-6 c =
+    let p = c .before .before .before in
+    let d = p .before .before in
+    let k = d .before .before .before in
+    let e = ap tariffOk (sym (c .before .before .tariff-in .ensures)) ∙ check-passed (c .before .tariff-in-range .ensures) (c .if5 .left) in
+    rw (d .before .before .word-at2 .ensures, c .before .before .tariff-in .ensures)
+    (sym (order-figures _ (long (k .before .before)) (kind k) (counts d) (places p) e))
+
+pub read-order-spec : {M : Type 1} → statement M
+read-order-spec =
+    tie.close
+    (tie.spec
+    returns
+    word-at-requires
+    returns-2
+    word-at-requires-2
+    cast-periods-in-range
+    periods-in-range-requires
+    returns-3
+    cast-length
+    mul-length
+    add-length
+    placed-requires
+    returns-4
+    tariff-in-requires
+    tariff-in-range-requires
+    returns-5
+    returns-6)

@@ -1,0 +1,78 @@
+-- The records from the place reached on are left to be weighed.
+use Prim.Native.Nat.{ℕ, _+_, _-_, _*_}
+use native.Mathlib.Omega.{arith}
+use mathlib.Core.Path.{_≡_, _∙_}
+use mathlib.Core.List.{List}
+use borrow.Author.Needs.{needs}
+use Rattle.plan_file.specs.declared.records.Tally.{Tally}
+use Rattle.plan_file.specs.Plan.{bucketsOffset, recordAt}
+use Rattle.plan_file.specs.RecordLaws.{Weighed, none-weighed, one-weighed, all-weighed}
+use Rattle.plan_file.proofs.records.records_in_file.Statement.{statement}
+use Rattle.plan_file.proofs.records.records_in_file.Tie as tie
+
+record Weighing (bs : List ℕ) (k : ℕ) (t : Tally) (at i : ℕ) : Type 0 where
+  place : at ≡ bucketsOffset + 12 * i
+  weighed : Weighed (recordAt bs) 12 k bucketsOffset t at i
+
+abbrev Inv-loop : tie.InvT-loop
+Inv-loop bytes periods buckets tally₀ at₀ i₀ tally at i = Weighing bytes buckets tally at i
+
+abbrev μ-loop : tie.MeasureT-loop
+μ-loop bytes periods buckets tally₀ at₀ i₀ tally at i = buckets - i
+
+loop-holds : tie.Need-loop-holds Inv-loop μ-loop
+loop-holds c = record { place = omega arith; weighed = none-weighed _ 12 _ bucketsOffset }
+
+record-at-requires : tie.Need-record-at-requires Inv-loop μ-loop
+record-at-requires c κs =
+    let s = c .before .before .before in
+    omega (arith, c .before .loop .inv .place, c .loop-test .taken, s .pre .0)
+
+push-requires : tie.Need-push-requires Inv-loop μ-loop
+push-requires c κs =
+    let i = c .before in
+    let s = i .before .before .before in
+    omega (arith, i .before .loop .inv .weighed .small, i .loop-test .taken, s .pre .1)
+
+add-at : tie.Need-add-at Inv-loop μ-loop
+add-at c =
+    let i = c .before .before in
+    let s = i .before .before .before in
+    omega (arith, i .before .loop .inv .place, i .loop-test .taken, s .pre .1)
+
+add-i : tie.Need-add-i Inv-loop μ-loop
+add-i c = search needs
+
+loop-less : tie.Need-loop-less Inv-loop μ-loop
+loop-less c = search needs
+
+loop-again : tie.Need-loop-again Inv-loop μ-loop
+loop-again c =
+    let i = c .before .before in
+    let w = i .before .loop .inv in
+    record {
+      place = omega (arith, w .place);
+      weighed = one-weighed _ _ _ _ (w .weighed) (i .loop-test .taken) _ _ (c .before .record-at .ensures) (c .push .ensures .0) (c .push .ensures .1);
+    }
+
+whole-requires : tie.Need-whole-requires Inv-loop μ-loop
+whole-requires c κs = search needs
+
+returns : tie.Need-returns Inv-loop μ-loop
+returns c = c .whole .ensures ∙ all-weighed _ _ _ _ (c .before .before .loop .inv .weighed) (c .before .loop-test .left) _
+
+pub records-in-file-spec : {M : Type 1} → statement M
+records-in-file-spec =
+    tie.close
+    (tie.spec
+    Inv-loop
+    μ-loop
+    loop-holds
+    record-at-requires
+    push-requires
+    add-at
+    add-i
+    loop-less
+    loop-again
+    whole-requires
+    returns)

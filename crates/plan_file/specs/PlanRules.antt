@@ -1,0 +1,257 @@
+-- The plan file rule by rule: which refusal each broken rule gives, and that a plan that breaks none is read.
+-- Assumes nothing.
+use Prim.Native.Nat.{ℕ, _+_, _≤_}
+use native.Mathlib.Omega.{arith}
+use mathlib.Core.Path.{_≡_, refl, sym, ap, ap₂, _∙_}
+use mathlib.Core.Bool.{Bool, true, false}
+use mathlib.Core.List.{List, [], _∷_, _++_, map}
+use borrow.Author.Tests.{leb-true, le-leb, eqb-true, eq-eqb}
+use lib.Dec.{leb, eqb}
+use lib.ListN.{length, length-map, length-append}
+use lib.Seq.{sets}
+use Rattle.terms.specs.declared.BucketRecord.{BucketRecord}
+use Rattle.terms.specs.Answer.{Answer, figures, refused, weigh}
+use Rattle.terms.specs.AnswerLaws.{same-figures, weigh-figures, on-figures}
+use Rattle.terms.specs.Bools.{and-three, both-and}
+use Rattle.terms.specs.Limits.{costLimit}
+use Rattle.terms.specs.Lent.{recorded, roomOf}
+use Rattle.terms.specs.LentLaws.{Lists, lists-kept, rooms}
+use Rattle.terms.specs.Ranges.{periodsOk}
+use Rattle.terms.specs.Records.{Cutting, runLength, runRate, runDepth}
+use Rattle.terms.specs.RangeLaws.{PeriodsRange, periods-range, periods-ok}
+use Rattle.plan_file.specs.declared.plans.PlanFigures.{PlanFigures}
+use Rattle.encoding.specs.Number.{bytesOf, numberAt, bytesOfAll}
+use Rattle.encoding.specs.NumberLaws.{length-items, length-bytes, length-all}
+use Rattle.encoding.specs.Header.{placedAs}
+use Rattle.encoding.specs.HeaderLaws.{Placed, placed-range, placed-ok}
+use Rattle.encoding.specs.StoreLaws.{sets-front}
+use Rattle.plan_file.specs.RecordLaws.{RecordsRange, records-range, records-ok}
+use Rattle.plan_file.specs.Plan.{Recorded, planKind, costOffset, bucketsOffset, planLength, planBytes, countsOk, recordsOk, recordsIn, planIn, fitting, readPlan, figuresOf, bucketsOf, listed, recordsOf, planWords, recordBytes, writePlan}
+
+-- T and k in their ranges, as orders of numbers.
+pub record CountsRange (T k : ℕ) : Type 0 where
+  pub periods : PeriodsRange T
+  pub some : 1 ≤ k
+  pub few : k ≤ T
+
+pub counts-range : (T k : ℕ) → countsOk T k ≡ true → CountsRange T k
+counts-range T k h =
+    let c = and-three (periodsOk T) (leb 1 k) (leb k T) h in
+    record { periods = periods-range T (c .0); some = leb-true _ _ (c .1); few = leb-true _ _ (c .2) }
+
+pub counts-ok : (T k : ℕ) → CountsRange T k → countsOk T k ≡ true
+counts-ok T k c = both-and (both-and (periods-ok T (c .periods)) (le-leb _ _ (c .some))) (le-leb _ _ (c .few))
+
+-- ---- Reading, rule by rule
+
+-- A plan's parts in their places.
+abbrev pub planPlaced : List ℕ → Bool
+planPlaced bs = placedAs 12 costOffset bucketsOffset (planLength (numberAt 4 bs 8)) bs
+
+-- The records where the bytes have them.
+abbrev pub bucketsIn : List ℕ → Cutting
+bucketsIn bs = recordsIn (numberAt 4 bs 8) bs
+
+module _ (bs : List ℕ) where
+  -- T, the cost and the records where the bytes have them.
+  abbrev pub recordedIn : Recorded
+  recordedIn = record { periods = numberAt 4 bs 4; cost = numberAt 8 bs costOffset; buckets = bucketsIn bs }
+
+  pub plan-short : leb costOffset (length bs) ≡ false → planIn bs ≡ refused 1
+  unfolding planIn
+  plan-short h = rw h
+
+  module _ (long : leb costOffset (length bs) ≡ true) where
+    pub plan-foreign : eqb (numberAt 4 bs 0) planKind ≡ false → planIn bs ≡ refused 2
+    unfolding planIn
+    plan-foreign h = rw (long, h)
+
+    module _ (kind : eqb (numberAt 4 bs 0) planKind ≡ true) where
+      pub plan-periods : countsOk (numberAt 4 bs 4) (numberAt 4 bs 8) ≡ false → planIn bs ≡ refused 3
+      unfolding planIn
+      plan-periods h = rw (long, kind, h)
+
+      module _ (counts : countsOk (numberAt 4 bs 4) (numberAt 4 bs 8) ≡ true) where
+        pub plan-misplaced : planPlaced bs ≡ false → planIn bs ≡ refused 4
+        unfolding planIn
+        plan-misplaced h = rw (long, kind, counts, h)
+
+        module _ (places : planPlaced bs ≡ true) where
+          pub plan-cost : leb (numberAt 8 bs costOffset) costLimit ≡ false → planIn bs ≡ refused 5
+          unfolding planIn
+          plan-cost h = rw (long, kind, counts, places, h)
+
+          module _ (cost : leb (numberAt 8 bs costOffset) costLimit ≡ true) where
+            pub plan-records : recordsOk (numberAt 4 bs 4) (bucketsIn bs) ≡ false → planIn bs ≡ refused 5
+            unfolding planIn
+            plan-records h = rw (long, kind, counts, places, cost, h)
+
+            pub plan-figures : recordsOk (numberAt 4 bs 4) (bucketsIn bs) ≡ true → planIn bs ≡ figures recordedIn
+            unfolding planIn
+            plan-figures h = rw (long, kind, counts, places, cost, h) refl
+
+-- The rules of the format as document 01 lists them.
+pub record PlanRules (bs : List ℕ) : Type 0 where
+  pub header : costOffset ≤ length bs
+  pub kind : numberAt 4 bs 0 ≡ planKind
+  pub counts : CountsRange (numberAt 4 bs 4) (numberAt 4 bs 8)
+  pub placed : Placed 12 costOffset bucketsOffset (planLength (numberAt 4 bs 8)) bs
+  pub cost : numberAt 8 bs costOffset ≤ costLimit
+  pub records : RecordsRange (numberAt 4 bs 4) (bucketsIn bs)
+
+-- Every plan that breaks no rule of its format is read.
+pub rules-read : (bs : List ℕ) → PlanRules bs → planIn bs ≡ figures (recordedIn bs)
+rules-read bs r =
+    plan-figures bs (le-leb _ _ (r .header)) (eq-eqb _ _ (r .kind)) (counts-ok _ _ (r .counts))
+    (placed-ok 12 costOffset bucketsOffset _ bs (r .placed)) (le-leb _ _ (r .cost)) (records-ok _ _ (r .records))
+
+-- And no other.
+pub read-rules : (bs : List ℕ) (x : Recorded) → planIn bs ≡ figures x → PlanRules bs × (x ≡ recordedIn bs)
+unfolding planIn
+read-rules bs x e =
+    let T = numberAt 4 bs 4 in
+    let k = numberAt 4 bs 8 in
+    let a = weigh-figures (leb costOffset (length bs)) 1 _ e in
+    let b = weigh-figures (eqb (numberAt 4 bs 0) planKind) 2 _ (a .1) in
+    let c = weigh-figures (countsOk T k) 3 _ (b .1) in
+    let d = weigh-figures (planPlaced bs) 4 _ (c .1) in
+    let f = weigh-figures (leb (numberAt 8 bs costOffset) costLimit) 5 _ (d .1) in
+    let g = weigh-figures (recordsOk T (bucketsIn bs)) 5 _ (f .1) in (
+      record {
+        header = leb-true _ _ (a .0);
+        kind = eqb-true _ _ (b .0);
+        counts = counts-range T k (c .0);
+        placed = placed-range 12 costOffset bucketsOffset (planLength k) bs (d .0);
+        cost = leb-true _ _ (f .0);
+        records = records-range T (bucketsIn bs) (g .0);
+      },
+      sym (same-figures (g .1)),
+    )
+
+-- The figures that are answered, from the numbers that are read.
+pub figures-are : (bs : List ℕ) (T k cost : ℕ) → T ≡ numberAt 4 bs 4 → k ≡ numberAt 4 bs 8 → cost ≡ numberAt 8 bs costOffset
+    → figures (record { periods = T; buckets = k; cost = cost }) ≡ figuresOf (figures (recordedIn bs))
+figures-are bs T k cost e f g =
+    let l : k ≡ length (bucketsIn bs) = f ∙ sym (length-items _ 12 (numberAt 4 bs 8) bucketsOffset) in
+    rw (e, g) (ap (λ (n : ℕ). figures (record { periods = numberAt 4 bs 4; buckets = n; cost = numberAt 8 bs costOffset })) l)
+
+-- ---- Reading into lists
+
+-- A plan with the figures y is read.
+pub record IsPlan (bs : List ℕ) (y : PlanFigures) : Type 0 where
+  pub is-read : planIn bs ≡ figures (recordedIn bs)
+  pub is-count : numberAt 4 bs 8 ≡ y .buckets
+  pub bytes : length bs ≡ planLength (y .buckets)
+
+pub is-plan : (bs : List ℕ) (y : PlanFigures) → figures y ≡ figuresOf (planIn bs) → IsPlan bs y
+is-plan bs y e =
+    let f = on-figures (λ x. record { periods = x .periods; buckets = length (x .buckets); cost = x .cost }) (planIn bs) (sym e) in
+    let r = read-rules bs (f .0) (f .1) in
+    let n : numberAt 4 bs 8 ≡ y .buckets =
+    sym (length-items _ 12 (numberAt 4 bs 8) bucketsOffset) ∙ ap (λ (x : Recorded). length (x .buckets)) (sym (r .1)) ∙ ap (λ (z : PlanFigures). z .buckets) (f .2) in
+    record { is-read = f .1 ∙ ap figures (r .1); is-count = n; bytes = r .0 .placed .bytes ∙ ap planLength n }
+
+-- A plan that is read fits lists that have room for its records.
+pub read-fits : (room : ℕ) (bs : List ℕ) (x : Recorded) → planIn bs ≡ figures x → length (x .buckets) ≤ room → readPlan room bs ≡ figures x
+read-fits room bs x e l = ap (fitting room) e ∙ ap (λ (ok : Bool). weigh ok 6 (figures x)) (le-leb _ _ l)
+
+module _ (bs runs rates depths : List ℕ) where
+  abbrev room : ℕ
+  room = roomOf runs rates depths
+
+  -- What is answered, and what the lists hold that held runs, rates and depths.
+  abbrev pub Result : Answer PlanFigures → List ℕ → List ℕ → List ℕ → Type 0
+  Result r runs′ rates′ depths′ = (r ≡ figuresOf (readPlan room bs)) × Lists runs rates depths runs′ rates′ depths′ (bucketsOf (readPlan room bs))
+
+  pub read-refused : (r : Answer PlanFigures) (n : ℕ) → r ≡ figuresOf (planIn bs) → planIn bs ≡ refused n → Result r runs rates depths
+  read-refused r n e f =
+      let g : readPlan room bs ≡ refused n = ap (fitting room) f in
+      (e ∙ ap figuresOf (f ∙ sym g), lists-kept runs rates depths _ n (ap bucketsOf g))
+
+  module _ (y : PlanFigures) (p : IsPlan bs y) where
+    count : length (bucketsIn bs) ≡ y .buckets
+    count = length-items _ 12 (numberAt 4 bs 8) bucketsOffset ∙ p .is-count
+
+    pub read-full : leb (y .buckets) room ≡ false → Result (refused 6) runs rates depths
+    read-full h =
+        let k : leb (length (bucketsIn bs)) room ≡ false = ap (λ (n : ℕ). leb n room) count ∙ h in
+        let g : readPlan room bs ≡ refused 6 = ap (fitting room) (p .is-read) ∙ ap (λ (ok : Bool). weigh ok 6 (figures (recordedIn bs))) k in
+        (sym (ap figuresOf g), lists-kept runs rates depths _ 6 (ap bucketsOf g))
+
+    module _ (h : leb (y .buckets) room ≡ true) where
+      -- one figure of each record, stored at the front
+      abbrev stored : (BucketRecord → ℕ) → List ℕ → List ℕ
+      stored figure old = sets old 0 (map figure (recordsIn (y .buckets) bs))
+
+      fits : readPlan room bs ≡ figures (recordedIn bs)
+      fits = read-fits room bs (recordedIn bs) (p .is-read) (omega (arith, count, leb-true (y .buckets) room h))
+
+      loaded : (figure : BucketRecord → ℕ) (old new : List ℕ) → y .buckets ≤ length old → new ≡ stored figure old
+          → new ≡ recorded figure (bucketsOf (readPlan room bs)) old
+      loaded figure old new l e =
+          e
+          ∙ ap (λ (n : ℕ). sets old 0 (map figure (recordsIn n bs))) (sym (p .is-count))
+          ∙ sets-front (map figure (bucketsIn bs)) old (omega (arith, length-map (bucketsIn bs) figure, count))
+          ∙ ap (λ (a : Answer Recorded). recorded figure (bucketsOf a) old) (sym fits)
+
+      pub read-loaded : (runs′ rates′ depths′ : List ℕ) → figures y ≡ figuresOf (planIn bs)
+          → (runs′ ≡ stored runLength runs) × ((rates′ ≡ stored runRate rates) × (depths′ ≡ stored runDepth depths))
+          → Result (figures y) runs′ rates′ depths′
+      read-loaded runs′ rates′ depths′ e s =
+          let l = rooms (y .buckets) runs rates depths (leb-true _ _ h) in
+          let runs-are = loaded runLength runs runs′ (l .first) (s .0) in
+          let rates-are = loaded runRate rates rates′ (l .second) (s .1 .0) in
+          let depths-are = loaded runDepth depths depths′ (l .third) (s .1 .1) in
+          (e ∙ ap figuresOf (p .is-read ∙ sym fits), (runs-are, (rates-are, depths-are)))
+
+-- ---- Writing, rule by rule
+
+module _ (room : ℕ) (x : PlanFigures) (runs rates depths : List ℕ) where
+  abbrev this : Answer (List ℕ)
+  this = writePlan room x runs rates depths
+
+  pub write-periods : countsOk (x .periods) (x .buckets) ≡ false → this ≡ refused 3
+  unfolding writePlan
+  write-periods h = rw h
+
+  module _ (counts : countsOk (x .periods) (x .buckets) ≡ true) where
+    pub write-cost : leb (x .cost) costLimit ≡ false → this ≡ refused 5
+    unfolding writePlan
+    write-cost h = rw (counts, h)
+
+    module _ (cost : leb (x .cost) costLimit ≡ true) where
+      pub write-lists : leb (x .buckets) (roomOf runs rates depths) ≡ false → this ≡ refused 6
+      unfolding writePlan
+      write-lists h = rw (counts, cost, h)
+
+      module _ (lists : leb (x .buckets) (roomOf runs rates depths) ≡ true) where
+        pub write-records : recordsOk (x .periods) (recordsOf (x .buckets) runs rates depths) ≡ false → this ≡ refused 5
+        unfolding writePlan
+        write-records h = rw (counts, cost, lists, h)
+
+        module _ (records : recordsOk (x .periods) (recordsOf (x .buckets) runs rates depths) ≡ true) where
+          pub write-room : leb (planLength (x .buckets)) room ≡ false → this ≡ refused 6
+          unfolding writePlan
+          write-room h = rw (counts, cost, lists, records, h)
+
+          pub write-figures : leb (planLength (x .buckets)) room ≡ true → this ≡ figures (planBytes (x .periods) (x .cost) (recordsOf (x .buckets) runs rates depths))
+          unfolding writePlan
+          write-figures h = rw (counts, cost, lists, records, h) refl
+
+-- ---- The bytes of a plan
+
+pub length-head : (T k cost : ℕ) → length (bytesOfAll (bytesOf 4) (planWords T k) ++ bytesOf 8 cost) ≡ bucketsOffset
+length-head T k cost =
+    length-append (bytesOfAll (bytesOf 4) (planWords T k)) (bytesOf 8 cost)
+    ∙ ap₂ (λ (m n : ℕ). m + n) (length-all (bytesOf 4) 4 (length-bytes 4) (planWords T k)) (length-bytes 8 cost)
+
+pub length-record : (x : BucketRecord) → length (recordBytes x) ≡ 12
+length-record x = length-all (bytesOf 4) 4 (length-bytes 4) (runLength x ∷ runRate x ∷ runDepth x ∷ [])
+
+pub length-plan : (T cost : ℕ) (xs : Cutting) → length (planBytes T cost xs) ≡ planLength (length xs)
+length-plan T cost xs =
+    length-append (bytesOfAll (bytesOf 4) (planWords T (length xs)) ++ bytesOf 8 cost) (bytesOfAll recordBytes xs)
+    ∙ ap₂ (λ (m n : ℕ). m + n) (length-head T (length xs) cost) (length-all recordBytes 12 length-record xs)
+
+pub length-records : (k : ℕ) (runs rates depths : List ℕ) → length (recordsOf k runs rates depths) ≡ k
+length-records k runs rates depths = length-items (listed runs rates depths) 1 k 0
