@@ -8,7 +8,7 @@ use lib.Dec.{leb, ltb, eqb}
 use lib.ListN.{length}
 use Rattle.terms.specs.declared.Bucket.{Bucket}
 use Rattle.terms.specs.declared.Factor.{Factor}
-use Rattle.terms.specs.Answer.{Answer, figures, refused, weigh}
+use Rattle.terms.specs.Answer.{Answer, figures, refused, weigh, andThen}
 use Rattle.terms.specs.Refusals.{numberOf}
 use Rattle.terms.specs.Limits.{demandLimit, meterLimit, totalLimit}
 use Rattle.terms.specs.Ranges.{freshOk}
@@ -79,6 +79,15 @@ keptIf (refused n) d ds = ds
 unfoldable pub accepted : Meter → List ℕ → List ℕ
 accepted m [] = []
 accepted m (d ∷ ds) = keptIf (offerOf m d) d (accepted (recordAfter m (offerOf m d)) ds)
+
+-- The record that a list of offers leaves where each is accepted, or the first refusal.
+unfoldable pub offersOf : Meter → List ℕ → Answer Meter
+offersOf m [] = figures m
+offersOf m (d ∷ ds) = andThen (offerOf m d) (λ x. offersOf (recordAfter m (figures x)) ds)
+
+-- A meter opened on a bucket with a factor and offered a run's demands, first to last.
+abbrev pub meterRun : Bucket → Factor → List ℕ → Answer Meter
+meterRun b f ds = andThen (openOf b f) (λ m. offersOf m ds)
 
 -- The record of a meter opened on (b, f) that has accepted the demands ds: its figures are those of the definitions.
 abbrev pub meterOn : Bucket → Factor → List ℕ → Meter

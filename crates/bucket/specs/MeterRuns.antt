@@ -14,13 +14,13 @@ use lib.Seq.{take-all, take-nil}
 use Rattle.terms.specs.declared.Bucket.{Bucket}
 use Rattle.terms.specs.declared.Factor.{Factor}
 use Rattle.terms.specs.Limits.{meterLimit}
-use Rattle.terms.specs.Answer.{figures, refused}
-use Rattle.terms.specs.RangeLaws.{FreshRange}
+use Rattle.terms.specs.Answer.{figures, refused, weigh, andThen}
+use Rattle.terms.specs.RangeLaws.{FreshRange, fresh-ok}
 use Rattle.bucket.specs.declared.meters.Meter.{Meter}
 use Rattle.bucket.specs.Step.{startOf, sent, over, held, lost, periodOf}
 use Rattle.bucket.specs.Trace.{Demands, heldAfter, sumOf, sentAll, overAll, lostAll, carries}
 use Rattle.bucket.specs.Laws.{start-le, conservation, carried-over, over-carried}
-use Rattle.bucket.specs.Meter.{offerOf, recordAfter, freshMeter, afterOffers, accepted, meterOn}
+use Rattle.bucket.specs.Meter.{offerOf, recordAfter, freshMeter, afterOffers, accepted, offersOf, meterRun, meterOn}
 use Rattle.bucket.specs.MeterLaws.{Sound, sound-meter, offer-full, offer-taken, taken-sound, sound-never-8}
 
 rest-demands : (d : ℕ) (ds : List ℕ) → Demands (d ∷ ds) → Demands ds
@@ -93,6 +93,15 @@ metered m (d ∷ ds) k h =
     go true e next same = let l = ltb-true _ _ e in metered-taken m d ds k l (next l)
     go false e next same = metered-full m d ds k (ltb-false _ _ e) same
 
+-- Where a sound record has periods to spare no offer is refused.
+pub offers-taken : (m : Meter) (ds : List ℕ) → Sound m → Demands ds → m .periods + length ds ≤ meterLimit → offersOf m ds ≡ figures (afterOffers m ds)
+unfolding offersOf afterOffers
+offers-taken m [] k h l = refl
+offers-taken m (d ∷ ds) k h l =
+    let n : m .periods < meterLimit = omega arith in
+    let e = offer-taken m d (sound-meter m k) n in
+    rw e (offers-taken _ ds (taken-sound m d k n (h .each 0)) (rest-demands d ds h) (omega arith))
+
 -- ---- An opened meter
 
 module _ (b : Bucket) (f : Factor) (range : FreshRange b f) where
@@ -145,6 +154,13 @@ module _ (b : Bucket) (f : Factor) (range : FreshRange b f) where
     -- On a trace of at most 1,000,000 periods every total is the definition's, and over is 0 exactly when the bucket carries the trace.
     pub opened-trace : length ds ≤ meterLimit → afterOffers (freshMeter b f) ds ≡ meterOn b f ds
     opened-trace l = first ∙ ap (meterOn b f) (take-all meterLimit ds l)
+
+    -- … and a meter opened on the bucket and offered the trace refuses nothing.
+    pub run-metered : length ds ≤ meterLimit → meterRun b f ds ≡ figures (meterOn b f ds)
+    run-metered l =
+        ap (λ (ok : Bool). andThen (weigh ok 5 (figures (freshMeter b f))) (λ m. offersOf m ds)) (fresh-ok b f range)
+        ∙ offers-taken (freshMeter b f) ds opened-sound h (omega arith)
+        ∙ ap figures (opened-trace l)
 
     over-is : length ds ≤ meterLimit
         → afterOffers (freshMeter b f) ds .over ≡ overAll (b .rate .0) (b .depth .0) (startOf (f .p) (f .q) (b .depth .0)) ds

@@ -18,6 +18,11 @@ abbrev pub onFigures : {A B : Type 0} → (A → B) → Answer A → Answer B
 onFigures f (figures x) = figures (f x)
 onFigures f (refused n) = refused n
 
+-- A further call made with the figures of an answer; a refusal stays.
+abbrev pub andThen : {A B : Type 0} → Answer A → (A → Answer B) → Answer B
+andThen (figures x) next = next x
+andThen (refused n) next = refused n
+
 -- What was found so far, or the new one where that is preferred; a refusal is passed over.
 abbrev pub choose : {A : Type 0} → (A → A → Bool) → Answer A → Answer A → Answer A
 choose preferred a (refused n) = a
