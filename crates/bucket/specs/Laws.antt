@@ -10,7 +10,8 @@ use mathlib.Core.List.{List, [], _∷_, List·Memᴰ, List·Memᴰ·cases-cons, 
 use mathlib.Core.Logic.{⊎-elim}
 use borrow.Author.Tests.{eqb-true, eq-eqb, ne-eqb, ltb-true, ltb-false}
 use lib.Dec.{eqb, ltb, leb·suc-zero}
-use lib.ListN.{length, getD, take}
+use lib.ListN.{length, getD, take, drop}
+use lib.Seq.{getD-drop}
 use lib.IntN.{ℤ, pos, negsuc, subℕ, _-ℤ_}
 use lib.Signed.{nonNeg, _≤ℤ_}
 use Rattle.terms.specs.Limits.{demandLimit}
@@ -86,7 +87,7 @@ module _ (p q r B : ℕ) (ds : List ℕ) where
   pub carries-lighter : (es : List ℕ) → Lighter es ds → carries p q r B ds ≡ true → carries p q r B es ≡ true
   carries-lighter es l = carried-more r r B B _ _ (omega arith) (omega arith) (omega arith) l
 
--- Traces of 16-bit numbers: with one more period in front, without the first, and the first n of one.
+-- Traces of 16-bit numbers: with one more period in front, without the first, the first n of one, and those after them.
 pub demands-cons : {d : ℕ} {ds : List ℕ} → d ≤ demandLimit → Demands ds → Demands (d ∷ ds)
 demands-cons {d} {ds} l k = record { each = each-of }
   where
@@ -101,6 +102,9 @@ pub demands-take : (n : ℕ) (ds : List ℕ) → Demands ds → Demands (take n 
 demands-take zero ds h = record { each = λ i. omega arith }
 demands-take (suc n) [] h = h
 demands-take (suc n) (d ∷ ds) h = demands-cons (h .each 0) (demands-take n ds (demands-tail h))
+
+pub demands-drop : (n : ℕ) (ds : List ℕ) → Demands ds → Demands (drop n ds)
+demands-drop n ds h = record { each = λ i. subst (λ (d : ℕ). d ≤ demandLimit) (sym (getD-drop n ds i 0)) (h .each (n + i)) }
 
 -- ---- Spare
 

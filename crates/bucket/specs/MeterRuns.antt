@@ -4,7 +4,7 @@
 use Prim.Native.Nat.{ℕ, suc, _+_, _-_, _*_, _≤_, _<_, min}
 use native.Mathlib.Omega.{arith}
 use native.Mathlib.Nat.{add-assoc}
-use mathlib.Core.Path.{_≡_, refl, sym, ap, _∙_}
+use mathlib.Core.Path.{_≡_, refl, sym, ap, subst, _∙_}
 use mathlib.Core.Bool.{Bool, true, false}
 use mathlib.Core.List.{List, [], _∷_}
 use borrow.Author.Tests.{ltb-true, ltb-false}
@@ -15,16 +15,14 @@ use Rattle.terms.specs.declared.Bucket.{Bucket}
 use Rattle.terms.specs.declared.Factor.{Factor}
 use Rattle.terms.specs.Limits.{meterLimit}
 use Rattle.terms.specs.Answer.{figures, refused, weigh, andThen}
+use Rattle.terms.specs.AnswerLaws.{same-figures, then-found}
 use Rattle.terms.specs.RangeLaws.{FreshRange, fresh-ok}
 use Rattle.bucket.specs.declared.meters.Meter.{Meter}
 use Rattle.bucket.specs.Step.{startOf, sent, over, held, lost, periodOf}
 use Rattle.bucket.specs.Trace.{Demands, heldAfter, sumOf, sentAll, overAll, lostAll, carries}
-use Rattle.bucket.specs.Laws.{start-le, conservation, carried-over, over-carried}
-use Rattle.bucket.specs.Meter.{offerOf, recordAfter, freshMeter, afterOffers, accepted, offersOf, meterRun, meterOn}
-use Rattle.bucket.specs.MeterLaws.{Sound, sound-meter, offer-full, offer-taken, taken-sound, sound-never-8}
-
-rest-demands : (d : ℕ) (ds : List ℕ) → Demands (d ∷ ds) → Demands ds
-rest-demands d ds h = record { each = λ i. h .each (suc i) }
+use Rattle.bucket.specs.Laws.{demands-tail, start-le, conservation, carried-over, over-carried}
+use Rattle.bucket.specs.Meter.{offerOf, recordAfter, freshMeter, openOf, afterOffers, accepted, offersOf, meterRun, meterOn}
+use Rattle.bucket.specs.MeterLaws.{Sound, open-fresh, sound-meter, offer-full, offer-taken, taken-sound, sound-never-8}
 
 -- The record m once the demands ds have all been accepted: each figure is that of the definitions, on top of what it was.
 abbrev pub advanced : Meter → List ℕ → Meter
@@ -85,7 +83,7 @@ pub metered : (m : Meter) (ds : List ℕ) → Sound m → Demands ds → Metered
 unfolding afterOffers accepted
 metered m [] k h = record { sound = k; accepts = sym (take-nil (meterLimit - m .periods)); records = rw (take-nil {A = ℕ} (meterLimit - m .periods)) (advanced-none m) }
 metered m (d ∷ ds) k h =
-    go (ltb (m .periods) meterLimit) refl (λ l. metered _ ds (taken-sound m d k l (h .each 0)) (rest-demands d ds h)) (metered m ds k (rest-demands d ds h))
+    go (ltb (m .periods) meterLimit) refl (λ l. metered _ ds (taken-sound m d k l (h .each 0)) (demands-tail h)) (metered m ds k (demands-tail h))
   where
     go : (b : Bool) → ltb (m .periods) meterLimit ≡ b
         → (m .periods < meterLimit → Metered (recordAfter m (figures (periodOf (m .bucket .rate .0) (m .bucket .depth .0) (m .held) d))) ds)
@@ -100,7 +98,7 @@ offers-taken m [] k h l = refl
 offers-taken m (d ∷ ds) k h l =
     let n : m .periods < meterLimit = omega arith in
     let e = offer-taken m d (sound-meter m k) n in
-    rw e (offers-taken _ ds (taken-sound m d k n (h .each 0)) (rest-demands d ds h) (omega arith))
+    rw e (offers-taken _ ds (taken-sound m d k n (h .each 0)) (demands-tail h) (omega arith))
 
 -- ---- An opened meter
 
@@ -162,6 +160,9 @@ module _ (b : Bucket) (f : Factor) (range : FreshRange b f) where
         ∙ offers-taken (freshMeter b f) ds opened-sound h (omega arith)
         ∙ ap figures (opened-trace l)
 
+    pub run-sound : length ds ≤ meterLimit → (m : Meter) → meterRun b f ds ≡ figures m → Sound m
+    run-sound l m e = subst Sound (opened-trace l ∙ same-figures (sym (run-metered l) ∙ e)) (all .sound)
+
     over-is : length ds ≤ meterLimit
         → afterOffers (freshMeter b f) ds .over ≡ overAll (b .rate .0) (b .depth .0) (startOf (f .p) (f .q) (b .depth .0)) ds
     over-is l = ap (λ (m : Meter). m .over) (opened-trace l)
@@ -173,3 +174,9 @@ module _ (b : Bucket) (f : Factor) (range : FreshRange b f) where
     pub carries-opened : length ds ≤ meterLimit → afterOffers (freshMeter b f) ds .over ≡ 0
         → carries (f .p) (f .q) (b .rate .0) (b .depth .0) ds ≡ true
     carries-opened l k = over-carried _ _ _ ds (sym (over-is l) ∙ k)
+
+-- What any meter holds that has taken a run: its figures are in their ranges.
+pub metered-sound : (b : Bucket) (f : Factor) (ds : List ℕ) → Demands ds → length ds ≤ meterLimit → (m : Meter) → meterRun b f ds ≡ figures m → Sound m
+metered-sound b f ds h l m e =
+    let o = then-found (openOf b f) (λ m. offersOf m ds) e in
+    run-sound b f (open-fresh b f (o .0) (o .1) .1) ds h l m e

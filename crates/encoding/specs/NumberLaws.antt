@@ -8,6 +8,7 @@ use mathlib.Core.Path.{_≡_, refl, sym, ap, ap₂, subst, _∙_}
 use mathlib.Core.List.{List, [], _∷_, _++_, append-assoc}
 use lib.ListN.{length, take, drop, getD, length-append, length-drop}
 use lib.Seq.{take-at, drop-append-seam, take-add, drop-cons, drop-drop, getD-drop}
+use Rattle.terms.specs.Records.{Each}
 use Rattle.encoding.specs.Number.{bytesOf, valueOf, numberAt, bytesOfAll, itemsAt}
 
 -- A number has at most w bytes.
@@ -85,12 +86,7 @@ item-at read width (suc n) at (suc i) d l =
     let e : at + width + width * i ≡ at + width * suc i = omega (arith, mul-suc width i) in
     item-at read width n (at + width) i d (omega arith) ∙ ap read e
 
--- Each item of a list is Ok.
-abbrev pub Each : {A : Type 0} → (A → Type 0) → List A → Type 0
-Each Ok [] = Unit {0}
-Each Ok (x ∷ xs) = Ok x × Each Ok xs
-
--- By index; d stands past the end.
+-- Each item is Ok where the item at each index is; d stands past the end.
 pub each-at : {A : Type 0} (Ok : A → Type 0) (d : A) (xs : List A) → ((i : ℕ) → i < length xs → Ok (getD xs i d)) → Each Ok xs
 each-at Ok d [] h = tt
 each-at Ok d (x ∷ xs) h = (h 0 (omega arith), each-at Ok d xs (λ i l. h (suc i) (omega arith)))

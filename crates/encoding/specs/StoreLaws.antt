@@ -70,14 +70,31 @@ module _ {A : Type 0} (read : ℕ → A) (width n i at : ℕ) where
   unfolding itemsAt
   items-none l = let e : n - i ≡ 0 = omega arith in ap (λ (m : ℕ). itemsAt read width m at) e
 
+-- … and of a list; d stands past its end.
+drop-next : {A : Type 0} (xs : List A) (i : ℕ) (d : A) → i < length xs → drop i xs ≡ getD xs i d ∷ drop (i + 1) xs
+drop-next xs i d l = drop-cons xs i d l ∙ ap (λ (n : ℕ). getD xs i d ∷ drop n xs) (sym (add-one i))
+
 module _ {A : Type 0} (bytes : A → List ℕ) (xs : List A) (i : ℕ) where
   pub bytes-next : (d : A) → i < length xs → bytesOfAll bytes (drop i xs) ≡ bytes (getD xs i d) ++ bytesOfAll bytes (drop (i + 1) xs)
   unfolding bytesOfAll
-  bytes-next d l = ap (bytesOfAll bytes) (drop-cons xs i d l ∙ ap (λ (n : ℕ). getD xs i d ∷ drop n xs) (sym (add-one i)))
+  bytes-next d l = ap (bytesOfAll bytes) (drop-next xs i d l)
 
   pub bytes-none : length xs ≤ i → bytesOfAll bytes (drop i xs) ≡ []
   unfolding bytesOfAll
   bytes-none l = ap (bytesOfAll bytes) (drop-of-length-le xs l)
+
+-- ---- A list copied entry by entry
+
+-- `xs` is being copied to the front of `old`: the entries from the i-th on are left.
+abbrev pub Copying : List ℕ → List ℕ → List ℕ → ℕ → Type 0
+Copying xs old new i = Storing old 0 xs new i (drop i xs)
+
+module _ {xs old new : List ℕ} {i : ℕ} (s : Storing old 0 xs new i (drop i xs)) where
+  pub copied-next : i < length xs → Copying xs old (set new i (getD xs i 0)) (i + 1)
+  copied-next l = one-stored s (getD xs i 0) (drop (i + 1) xs) (drop-next xs i 0 l)
+
+  pub copied-all : length xs ≤ i → new ≡ sets old 0 xs
+  copied-all l = all-stored s (drop-of-length-le xs l)
 
 -- ---- Numbers of w bytes stored one by one
 

@@ -14,14 +14,14 @@ use Rattle.terms.specs.Answer.{figures}
 use Rattle.terms.specs.AnswerLaws.{same-figures, weigh-figures}
 use Rattle.terms.specs.Limits.{costLimit}
 use Rattle.terms.specs.Lent.{recorded, roomOf}
-use Rattle.terms.specs.Records.{Cutting, runLength, runRate, runDepth, total}
+use Rattle.terms.specs.Records.{Cutting, Each, runLength, runRate, runDepth, total}
 use Rattle.plan_file.specs.declared.plans.PlanFigures.{PlanFigures}
 use Rattle.encoding.specs.Number.{bytesOf, numberAt, bytesOfAll, itemsAt}
-use Rattle.encoding.specs.NumberLaws.{Within, Bytes, Each, numbers-written, numbers-read, each-at, length-bytes, length-all, length-items, item-at, number-written, number-read, items-written, items-read}
+use Rattle.encoding.specs.NumberLaws.{Within, Bytes, numbers-written, numbers-read, each-at, length-bytes, length-all, length-items, item-at, number-written, number-read, items-written, items-read}
 use Rattle.encoding.specs.HeaderLaws.{Placed}
 use Rattle.plan_file.specs.RecordLaws.{RecordsRange, noRecord, records-range, records-ok}
 use Rattle.plan_file.specs.Plan.{Recorded, costOffset, bucketsOffset, planLength, planWords, planBytes, recordBytes, recordOf, recordAt, recordsIn, countsOk, recordsOk, planIn, readPlan, listed, recordsOf, writePlan}
-use Rattle.plan_file.specs.PlanRules.{PlanRules, CountsRange, counts-range, counts-ok, bucketsIn, recordedIn, rules-read, read-rules, read-fits, write-figures, length-head, length-record, length-plan, length-records}
+use Rattle.plan_file.specs.PlanRules.{PlanRules, CountsRange, counts-range, counts-ok, bucketsIn, recordedIn, rules-read, read-rules, read-fits, write-figures, write-rules, length-head, length-record, length-plan, length-records}
 
 -- ---- One record
 
@@ -133,18 +133,12 @@ module _ (T cost : ℕ) (xs : Cutting) (c : CountsRange T (length xs)) (limit : 
 pub write-read : (room : ℕ) (x : PlanFigures) (runs rates depths bs : List ℕ) → writePlan room x runs rates depths ≡ figures bs
     → (space : ℕ) → x .buckets ≤ space
     → readPlan space bs ≡ figures (record { periods = x .periods; cost = x .cost; buckets = recordsOf (x .buckets) runs rates depths })
-unfolding writePlan
 write-read room x runs rates depths bs e space l =
     let xs = recordsOf (x .buckets) runs rates depths in
-    let a = weigh-figures (countsOk (x .periods) (x .buckets)) 3 _ e in
-    let b = weigh-figures (leb (x .cost) costLimit) 5 _ (a .1) in
-    let c = weigh-figures (leb (x .buckets) (roomOf runs rates depths)) 6 _ (b .1) in
-    let d = weigh-figures (recordsOk (x .periods) xs) 5 _ (c .1) in
-    let f = weigh-figures (leb (planLength (x .buckets)) room) 6 _ (d .1) in
+    let w = write-rules room x runs rates depths bs e in
     let n : length xs ≡ x .buckets = length-records (x .buckets) runs rates depths in
-    let k = subst (CountsRange (x .periods)) (sym n) (counts-range (x .periods) (x .buckets) (a .0)) in
-    let r = plan-read (x .periods) (x .cost) xs k (leb-true _ _ (b .0)) (records-range (x .periods) xs (d .0)) in
-    ap (readPlan space) (sym (same-figures (f .1))) ∙ read-fits space (planBytes (x .periods) (x .cost) xs) _ r (omega (arith, n))
+    let r = plan-read (x .periods) (x .cost) xs (subst (CountsRange (x .periods)) (sym n) (w .counts)) (w .cost) (w .records) in
+    ap (readPlan space) (sym (w .is)) ∙ read-fits space (planBytes (x .periods) (x .cost) xs) _ r (omega (arith, n))
 
 -- ---- Reading and then writing
 

@@ -238,6 +238,33 @@ module _ (room : ℕ) (x : PlanFigures) (runs rates depths : List ℕ) where
           unfolding writePlan
           write-figures h = rw (counts, cost, lists, records, h) refl
 
+-- What is known of a plan that is written.
+pub record WriteRules (room : ℕ) (x : PlanFigures) (runs rates depths bs : List ℕ) : Type 0 where
+  pub counts : CountsRange (x .periods) (x .buckets)
+  pub cost : x .cost ≤ costLimit
+  pub lists : x .buckets ≤ roomOf runs rates depths
+  pub records : RecordsRange (x .periods) (recordsOf (x .buckets) runs rates depths)
+  pub bytes : planLength (x .buckets) ≤ room
+  pub is : planBytes (x .periods) (x .cost) (recordsOf (x .buckets) runs rates depths) ≡ bs
+
+pub write-rules : (room : ℕ) (x : PlanFigures) (runs rates depths bs : List ℕ) → writePlan room x runs rates depths ≡ figures bs → WriteRules room x runs rates depths bs
+unfolding writePlan
+write-rules room x runs rates depths bs e =
+    let xs = recordsOf (x .buckets) runs rates depths in
+    let a = weigh-figures (countsOk (x .periods) (x .buckets)) 3 _ e in
+    let b = weigh-figures (leb (x .cost) costLimit) 5 _ (a .1) in
+    let c = weigh-figures (leb (x .buckets) (roomOf runs rates depths)) 6 _ (b .1) in
+    let d = weigh-figures (recordsOk (x .periods) xs) 5 _ (c .1) in
+    let f = weigh-figures (leb (planLength (x .buckets)) room) 6 _ (d .1) in
+    record {
+      counts = counts-range (x .periods) (x .buckets) (a .0);
+      cost = leb-true _ _ (b .0);
+      lists = leb-true _ _ (c .0);
+      records = records-range (x .periods) xs (d .0);
+      bytes = leb-true _ _ (f .0);
+      is = same-figures (f .1);
+    }
+
 -- ---- The bytes of a plan
 
 pub length-head : (T k cost : ℕ) → length (bytesOfAll (bytesOf 4) (planWords T k) ++ bytesOf 8 cost) ≡ bucketsOffset

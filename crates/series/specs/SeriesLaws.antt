@@ -8,6 +8,7 @@ use native.Mathlib.Omega.{arith}
 use mathlib.Core.Path.{_≡_, refl, sym, ap, subst}
 use mathlib.Core.Bool.{true, false}
 use mathlib.Core.List.{List}
+use borrow.Author.Tests.{leb-true}
 use lib.Dec.{leb}
 use lib.ListN.{length}
 use Rattle.terms.specs.declared.BucketRecord.{BucketRecord}
@@ -98,6 +99,14 @@ module _ (t : Tariff) where
           let k = weigh-figures (tariffOk t) 5 (weigh (leb (length ds) room) 6 (cheapestCut t ds)) h .1 in
           cut-cheapest xs (weigh-figures (leb (length ds) room) 6 (cheapestCut t ds) k .1)
 
+      -- … of a trace that the lists have room for.
+      pub series-room : (xs : Cutting) → seriesOf t room ds ≡ figures xs → length ds ≤ room
+      unfolding seriesOf
+      series-room xs e =
+          let h = weigh-figures (periodsOk (length ds)) 3 (weigh (tariffOk t) 5 (weigh (leb (length ds) room) 6 (cheapestCut t ds))) e .1 in
+          let k = weigh-figures (tariffOk t) 5 (weigh (leb (length ds) room) 6 (cheapestCut t ds)) h .1 in
+          leb-true _ _ (weigh-figures (leb (length ds) room) 6 (cheapestCut t ds) k .0)
+
       -- Refusal 7 is given exactly when no cutting of a trace in range is carried.
       pub series-none : seriesOf t room ds ≡ refused 7 → NoCutting ds
       unfolding seriesOf
@@ -113,3 +122,10 @@ module _ (t : Tariff) where
           go : (a : Answer Cutting) → IsSeries ds a → a ≡ refused 7
           go (figures xs) i = absurd (none xs (i .kind))
           go (refused n) i = ap refused (i .0)
+
+      -- A trace and a tariff in their ranges with room for the records meet no other refusal.
+      pub series-refuses : periodsOk (length ds) ≡ true → tariffOk t ≡ true → leb (length ds) room ≡ true → (n : ℕ) → seriesOf t room ds ≡ refused n → n ≡ 7
+      unfolding seriesOf
+      series-refuses h k l n e =
+          let f : weigh true 3 (weigh true 5 (weigh true 6 (cheapestCut t ds))) ≡ refused n = rw (h, k, l) at e in
+          subst (IsSeries ds) f series-is .0

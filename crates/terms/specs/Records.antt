@@ -21,3 +21,8 @@ runDepth x = x .bucket .depth .0
 unfoldable pub total : {X : Type 0} → (X → ℕ) → List X → ℕ
 total figure [] = 0
 total figure (x ∷ xs) = figure x + total figure xs
+
+-- Each item of a list is Ok.
+abbrev pub Each : {X : Type 0} → (X → Type 0) → List X → Type 0
+Each Ok [] = Unit {0}
+Each Ok (x ∷ xs) = Ok x × Each Ok xs

@@ -1,0 +1,373 @@
+-- What the list of calls leaves, call by call, before anything is put back.
+-- Assumes nothing.
+use Prim.Native.Nat.{ℕ, _≤_, min}
+use native.Mathlib.Omega.{arith}
+use mathlib.Core.Path.{_≡_, refl, sym, ap, subst, _∙_}
+use mathlib.Core.Bool.{Bool, true, false}
+use mathlib.Core.List.{List, map}
+use borrow.Author.Tests.{leb-true}
+use lib.Dec.{leb}
+use lib.ListN.{length, take, drop, length-take, length-append, length-drop, length-map}
+use Rattle.terms.specs.declared.BucketRecord.{BucketRecord}
+use Rattle.terms.specs.declared.Factor.{Factor}
+use Rattle.terms.specs.Answer.{Answer, figures, refused, weigh, onFigures, andThen}
+use Rattle.terms.specs.AnswerLaws.{figures-refused, same-figures, on-figures, on-refused, then-figures, then-refused}
+use Rattle.terms.specs.Lent.{filled, recorded, roomOf}
+use Rattle.terms.specs.LentLaws.{Lists, rooms, filled-front}
+use Rattle.terms.specs.Records.{Cutting, runLength, runRate, runDepth, total}
+use Rattle.terms.specs.Refusals.{numberOf}
+use Rattle.bucket.specs.declared.meters.Meter.{Meter}
+use Rattle.series.specs.declared.plans.Plan.{Plan}
+use Rattle.series.specs.Series.{trueCost, seriesOf}
+use Rattle.series.specs.Series as series
+use Rattle.order_file.specs.declared.orders.Order.{Order}
+use Rattle.order_file.specs.Order.{readOrder, tracePart, spreadOf}
+use Rattle.plan_file.specs.declared.plans.PlanFigures.{PlanFigures}
+use Rattle.plan_file.specs.Plan.{Recorded, readPlan, writePlan, figuresOf, bucketsOf, recordsOf}
+use Rattle.plan_file.specs.PlanLaws.{write-read, lists-hold}
+use Rattle.plan_file.specs.PlanRules.{CountsRange, WriteRules, write-rules, length-records}
+use Rattle.booking.specs.declared.calls.PlannedOrder.{PlannedOrder}
+use Rattle.booking.specs.declared.calls.PlannedAnswer.{PlannedAnswer}
+use Rattle.booking.specs.declared.calls.PlannedAnswer.the-variants.{Found, Refused}
+use Rattle.booking.specs.declared.calls.Booking.{Booking}
+use Rattle.booking.specs.declared.metering.MeterTotals.{MeterTotals}
+use Rattle.booking.specs.Booking.{RecordLists, Lent, Planned, Recording, lists, lent, roomIn, withRecords, planned, plannedRuns, plannedFor, written, readBack, metersOf, totalsOf, recording, recordingFor, planFigures, booked, bookingOf, answerOf}
+use Rattle.booking.specs.BookingLaws.{IsPlanned, is-planned, planned-count}
+
+-- What fills the front of a list, read off it: as many entries as there are.
+module _ (a : Answer (List ℕ)) (old new : List ℕ) (n : ℕ) (e : figures n ≡ onFigures length a) (f : new ≡ filled a old) where
+  entries : (xs : List ℕ) × (a ≡ figures xs) × (length xs ≡ n)
+  entries = on-figures length a (sym e)
+
+  front-is : take n new ≡ entries .0
+  front-is =
+      ap (take n) (f ∙ ap (λ (b : Answer (List ℕ)). filled b old) (entries .1))
+      ∙ ap (λ (m : ℕ). take m (filled (figures (entries .0)) old)) (sym (entries .2))
+      ∙ filled-front (entries .0) old
+
+  pub fills-front : a ≡ figures (take n new)
+  fills-front = entries .1 ∙ ap figures (sym front-is)
+
+  pub front-count : length (take n new) ≡ n
+  front-count = ap length front-is ∙ entries .2
+
+  pub front-inside : n ≤ length new
+  front-inside = omega (arith, length-take n new, front-count)
+
+-- Three lists that an answer has filled.
+abbrev pub Filled : Answer Cutting → RecordLists → RecordLists → Type 0
+Filled a old new = Lists (old .runs) (old .rates) (old .depths) (new .runs) (new .rates) (new .depths) a
+
+lists-are : (a : Answer Cutting) (old : RecordLists) (xs ys zs : List ℕ) → Filled a old (lists xs ys zs) → lists xs ys zs ≡ withRecords a old
+lists-are a old xs ys zs e = rw (e .0, e .1 .0, e .1 .1)
+
+-- ---- Planning
+
+-- Each case of the answer in document 01's values and numbers.
+abbrev pub plannedSays : PlannedAnswer → Answer PlannedOrder
+plannedSays (Found x) = figures x
+plannedSays (Refused x) = refused (numberOf x)
+
+-- The figures that are answered.
+abbrev pub plannedFigures : Planned → PlannedOrder
+plannedFigures x = record { order = x .order; plan = record { buckets = length (x .cutting); cost = trueCost (x .order .tariff) (x .cutting) } }
+
+-- The order is read and its trace spread.
+abbrev pub spreadFrom : ℕ → List ℕ → Answer (List ℕ)
+spreadFrom space bs = andThen (readOrder bs) (λ o. spreadOf space (tracePart bs))
+
+abbrev pub cuttingOf : Answer Planned → Answer Cutting
+cuttingOf = onFigures (λ x. x .cutting)
+
+-- What planning answers, and what the list of demands and the lists of records then hold.
+pub record PlansOrder (bs demands : List ℕ) (plan : RecordLists) (demands′ : List ℕ) (plan′ : RecordLists) (answer : Answer PlannedOrder) : Type 0 where
+  pub answers : answer ≡ onFigures plannedFigures (planned (length demands) (roomIn plan) bs)
+  pub spreads : demands′ ≡ filled (spreadFrom (length demands) bs) demands
+  pub records : plan′ ≡ withRecords (cuttingOf (planned (length demands) (roomIn plan) bs)) plan
+
+module _ (bs demands : List ℕ) (plan : RecordLists) where
+  abbrev these : Answer Planned
+  these = planned (length demands) (roomIn plan) bs
+
+  no-plan : (demands′ : List ℕ) (n : ℕ) → these ≡ refused n → demands′ ≡ filled (spreadFrom (length demands) bs) demands → PlansOrder bs demands plan demands′ plan (refused n)
+  no-plan demands′ n e d =
+      record { answers = sym (ap (onFigures plannedFigures) e); spreads = d; records = sym (ap (λ (a : Answer Planned). withRecords (cuttingOf a) plan) e) }
+
+  pub order-refused : (n : ℕ) → readOrder bs ≡ refused n → PlansOrder bs demands plan demands plan (refused n)
+  order-refused n e = no-plan demands n (sym (then-refused _ _ e)) (ap (λ (a : Answer (List ℕ)). filled a demands) (then-refused _ _ e))
+
+  module _ (o : Order) (e : readOrder bs ≡ figures o) (part : List ℕ) (p : part ≡ tracePart bs) where
+    abbrev spreading : Answer (List ℕ)
+    spreading = spreadOf (length demands) part
+
+    part-spread : spreading ≡ spreadFrom (length demands) bs
+    part-spread = ap (spreadOf (length demands)) p ∙ then-figures _ _ e
+
+    abbrev onward : Answer (List ℕ) → Answer Planned
+    onward a = andThen a (λ ds. plannedRuns o ds (roomIn plan))
+
+    these-are : onward spreading ≡ these
+    these-are = ap (λ (ys : List ℕ). onward (spreadOf (length demands) ys)) p ∙ then-figures _ _ e
+
+    module _ (demands′ : List ℕ) (d : demands′ ≡ filled spreading demands) where
+      spreads-so : demands′ ≡ filled (spreadFrom (length demands) bs) demands
+      spreads-so = d ∙ ap (λ (a : Answer (List ℕ)). filled a demands) part-spread
+
+      pub spread-refused : (n : ℕ) → refused n ≡ onFigures length spreading → PlansOrder bs demands plan demands′ plan (refused n)
+      spread-refused n f = no-plan demands′ n (sym these-are ∙ ap onward (on-refused length spreading (sym f))) spreads-so
+
+      module _ (n : ℕ) (f : figures n ≡ onFigures length spreading) where
+        -- the series for the numbers spread
+        abbrev found : Answer Cutting
+        found = seriesOf (o .tariff) (roomIn plan) (take n demands′)
+
+        runs-planned : these ≡ onFigures (λ xs. record { order = o; demands = take n demands′; cutting = xs }) found
+        runs-planned =
+            sym these-are
+            ∙ ap onward (fills-front spreading demands demands′ n f d)
+
+        abbrev withOrder : Plan → PlannedOrder
+        withOrder x = record { order = o; plan = x }
+
+        plan-answers : (a : Answer Cutting)
+            → onFigures withOrder (series.planOf (o .tariff) a) ≡ onFigures plannedFigures (onFigures (λ xs. record { order = o; demands = take n demands′; cutting = xs }) a)
+        plan-answers (figures xs) = refl
+        plan-answers (refused m) = refl
+
+        cutting-is : (a : Answer Cutting) → a ≡ cuttingOf (onFigures (λ xs. record { order = o; demands = take n demands′; cutting = xs }) a)
+        cutting-is (figures xs) = refl
+        cutting-is (refused m) = refl
+
+        pub series-planned : (runs rates depths : List ℕ) (r : Answer Plan) → r ≡ series.planOf (o .tariff) found → Filled found plan (lists runs rates depths)
+            → PlansOrder bs demands plan demands′ (lists runs rates depths) (onFigures withOrder r)
+        series-planned runs rates depths r g k =
+            record {
+              answers = ap (onFigures withOrder) g ∙ plan-answers found ∙ ap (onFigures plannedFigures) (sym runs-planned);
+              spreads = spreads-so;
+              records = lists-are found plan runs rates depths k ∙ ap (λ (a : Answer Cutting). withRecords a plan) (cutting-is found ∙ ap cuttingOf (sym runs-planned));
+            }
+
+-- ---- Recording
+
+-- The plan is written and read back.
+abbrev pub readFrom : ℕ → ℕ → PlanFigures → RecordLists → Answer Cutting
+readFrom space room x l = andThen (written space room x l) (λ file. bucketsOf (readPlan space file))
+
+-- What recording a plan answers, and what the bytes and the lists read into then hold.
+pub record RecordsPlan (x : PlanFigures) (f : Factor) (ds : List ℕ) (l : RecordLists) (bytes : List ℕ) (back : RecordLists) (bytes′ : List ℕ) (back′ : RecordLists) (answer : Answer Booking) : Type 0 where
+  pub answers : answer ≡ onFigures bookingOf (recording (roomIn back) (length bytes) x l f ds)
+  pub writes : bytes′ ≡ filled (written (roomIn back) (length bytes) x l) bytes
+  pub reads : back′ ≡ withRecords (readFrom (roomIn back) (length bytes) x l) back
+
+-- Lists that have been filled have the room they had.
+pub room-kept : (xs : Cutting) (back : RecordLists) → length xs ≤ roomIn back → roomIn (withRecords (figures xs) back) ≡ roomIn back
+room-kept xs back l =
+    let r = rooms (length xs) (back .runs) (back .rates) (back .depths) l in
+    rw (kept runLength (back .runs) (r .first), kept runRate (back .rates) (r .second), kept runDepth (back .depths) (r .third))
+  where
+    kept : (figure : BucketRecord → ℕ) (old : List ℕ) → length xs ≤ length old → length (recorded figure (figures xs) old) ≡ length old
+    kept figure old m = length-append (map figure xs) _ ∙ omega (arith, length-map xs figure, length-drop (length (map figure xs)) old)
+
+module _ (x : PlanFigures) (f : Factor) (ds : List ℕ) (l : RecordLists) (bytes : List ℕ) (back : RecordLists) where
+  abbrev file : Answer (List ℕ)
+  file = written (roomIn back) (length bytes) x l
+
+  abbrev writing : Answer (List ℕ)
+  writing = writePlan (length bytes) x (l .runs) (l .rates) (l .depths)
+
+  refuses : (bytes′ : List ℕ) (n : ℕ) → file ≡ refused n → bytes′ ≡ filled file bytes → RecordsPlan x f ds l bytes back bytes′ back (refused n)
+  refuses bytes′ n e b =
+      record {
+        answers = ap (onFigures bookingOf) (then-refused _ _ e);
+        writes = b;
+        reads = ap (λ (a : Answer Cutting). withRecords a back) (then-refused _ _ e);
+      }
+
+  pub no-room : leb (x .buckets) (roomIn back) ≡ false → RecordsPlan x f ds l bytes back bytes back (refused 6)
+  no-room h =
+      let e : file ≡ refused 6 = ap (λ (ok : Bool). weigh ok 6 writing) h in
+      refuses bytes 6 e (ap (λ (a : Answer (List ℕ)). filled a bytes) (sym e))
+
+  module _ (h : leb (x .buckets) (roomIn back) ≡ true) (bytes′ : List ℕ) (b : bytes′ ≡ filled writing bytes) where
+    file-is : file ≡ writing
+    file-is = ap (λ (ok : Bool). weigh ok 6 writing) h
+
+    writes-so : bytes′ ≡ filled file bytes
+    writes-so = b ∙ ap (λ (a : Answer (List ℕ)). filled a bytes) (sym file-is)
+
+    pub write-refused : (n : ℕ) → refused n ≡ onFigures length writing → RecordsPlan x f ds l bytes back bytes′ back (refused n)
+    write-refused n e = refuses bytes′ n (file-is ∙ on-refused length writing (sym e)) writes-so
+
+    module _ (n : ℕ) (e : figures n ≡ onFigures length writing) where
+      abbrev front : List ℕ
+      front = take n bytes′
+
+      abbrev xs : Cutting
+      xs = recordsOf (x .buckets) (l .runs) (l .rates) (l .depths)
+
+      written-front : writing ≡ figures front
+      written-front = fills-front writing bytes bytes′ n e b
+
+      count : length xs ≡ x .buckets
+      count = length-records (x .buckets) (l .runs) (l .rates) (l .depths)
+
+      abbrev plan : Recorded
+      plan = record { periods = x .periods; cost = x .cost; buckets = xs }
+
+      -- what was written is read back
+      reads-front : readPlan (roomIn back) front ≡ figures plan
+      reads-front = write-read (length bytes) x (l .runs) (l .rates) (l .depths) front written-front (roomIn back) (leb-true _ _ h)
+
+      pub read-taken : (m : ℕ) → refused m ≡ figuresOf (readPlan (roomIn back) front) → ⊥
+      read-taken m g = figures-refused (sym (g ∙ ap figuresOf reads-front))
+
+      module _ (y : PlanFigures) (g : figures y ≡ figuresOf (readPlan (roomIn back) front)) (runs rates depths : List ℕ) (k : Filled (bucketsOf (readPlan (roomIn back) front)) back (lists runs rates depths)) where
+        abbrev back′ : RecordLists
+        back′ = lists runs rates depths
+
+        reads-so : back′ ≡ withRecords (bucketsOf (readPlan (roomIn back) front)) back
+        reads-so = lists-are (bucketsOf (readPlan (roomIn back) front)) back runs rates depths k
+
+        y-is : y ≡ record { periods = x .periods; buckets = length xs; cost = x .cost }
+        y-is = same-figures (g ∙ ap figuresOf reads-front)
+
+        same-count : y .buckets ≡ length xs
+        same-count = ap (λ (z : PlanFigures). z .buckets) y-is
+
+        back-is : back′ ≡ withRecords (figures xs) back
+        back-is = reads-so ∙ ap (λ (a : Answer Recorded). withRecords (bucketsOf a) back) reads-front
+
+        rules : WriteRules (length bytes) x (l .runs) (l .rates) (l .depths) front
+        rules = write-rules (length bytes) x (l .runs) (l .rates) (l .depths) front written-front
+
+        back-room : y .buckets ≤ roomOf runs rates depths
+        back-room =
+            let m : length xs ≤ roomIn back = omega (arith, count, leb-true (x .buckets) (roomIn back) h) in
+            omega (arith, same-count, room-kept xs back m, ap roomIn back-is)
+
+        back-counts : CountsRange (x .periods) (y .buckets)
+        back-counts = subst (CountsRange (x .periods)) (sym (same-count ∙ count)) (rules .counts)
+
+        back-records : recordsOf (y .buckets) runs rates depths ≡ xs
+        back-records =
+            ap (λ (m : ℕ). recordsOf m runs rates depths) same-count
+            ∙ ap (λ (z : RecordLists). recordsOf (length xs) (z .runs) (z .rates) (z .depths)) back-is
+            ∙ lists-hold xs (back .runs) (back .rates) (back .depths)
+
+        back-sum : total runLength (recordsOf (y .buckets) runs rates depths) ≡ x .periods
+        back-sum = ap (total runLength) back-records ∙ rules .records .sum
+
+        -- so the records read can be metered on a trace of T periods
+        pub back-ready : x .periods ≡ length ds
+            → (y .buckets ≤ roomOf runs rates depths) × (CountsRange (length ds) (y .buckets) × (total runLength (recordsOf (y .buckets) runs rates depths) ≡ length ds))
+        back-ready q = (back-room, (subst (λ (T : ℕ). CountsRange T (y .buckets)) q back-counts, back-sum ∙ q))
+
+        abbrev withMeters : MeterTotals → Booking
+        withMeters t = record { plan = y; length = n; meters = t }
+
+        abbrev recordingWith : List Meter → Recording
+        recordingWith ms = record { file = front; plan = plan; meters = ms }
+
+        metered-answers : (a : Answer (List Meter)) → onFigures withMeters (onFigures totalsOf a) ≡ onFigures bookingOf (onFigures recordingWith a)
+        metered-answers (figures ms) =
+            rw (y-is, front-count writing bytes bytes′ n e b)
+        metered-answers (refused m) = refl
+
+        recorded-so : recording (roomIn back) (length bytes) x l f ds ≡ onFigures recordingWith (metersOf f ds xs)
+        recorded-so =
+            sym (then-figures file (readBack (roomIn back) f ds) (file-is ∙ written-front))
+            ∙ sym (then-figures (readPlan (roomIn back) front) _ reads-front)
+
+        pub plan-metered : (r : Answer MeterTotals) → r ≡ onFigures totalsOf (metersOf f ds (recordsOf (y .buckets) runs rates depths))
+            → RecordsPlan x f ds l bytes back bytes′ (lists runs rates depths) (onFigures withMeters r)
+        plan-metered r t =
+            record {
+              answers =
+                  ap (onFigures withMeters) (t ∙ ap (λ (ys : Cutting). onFigures totalsOf (metersOf f ds ys)) back-records)
+                  ∙ metered-answers (metersOf f ds xs)
+                  ∙ ap (onFigures bookingOf) (sym recorded-so);
+              writes = writes-so;
+              reads = reads-so ∙ ap (λ (a : Answer Cutting). withRecords a back) (then-figures file _ (file-is ∙ written-front));
+            }
+
+-- ---- The whole list
+
+abbrev pub writtenFor : Lent → Planned → Answer (List ℕ)
+writtenFor old x = written (roomIn (old .back)) (length (old .bytes)) (planFigures x) (withRecords (figures (x .cutting)) (old .plan))
+
+abbrev pub readFor : Lent → Planned → Answer Cutting
+readFor old x = readFrom (roomIn (old .back)) (length (old .bytes)) (planFigures x) (withRecords (figures (x .cutting)) (old .plan))
+
+-- What the calls answer, and what each has left in what it was lent.
+pub record Called (bs : List ℕ) (old new : Lent) (answer : Answer Booking) : Type 0 where
+  pub answers : answer ≡ onFigures answerOf (booked old bs)
+  pub spreads : new .demands ≡ filled (spreadFrom (length (old .demands)) bs) (old .demands)
+  pub records : new .plan ≡ withRecords (cuttingOf (plannedFor old bs)) (old .plan)
+  pub writes : new .bytes ≡ filled (andThen (plannedFor old bs) (writtenFor old)) (old .bytes)
+  pub reads : new .back ≡ withRecords (andThen (plannedFor old bs) (readFor old)) (old .back)
+
+module _ (bs : List ℕ) (old : Lent) (demands′ : List ℕ) (plan′ : RecordLists) (found : Answer PlannedOrder) (p : PlansOrder bs (old .demands) (old .plan) demands′ plan′ found) where
+  pub planning-refused : (n : ℕ) → found ≡ refused n → Called bs old (lent demands′ plan′ (old .bytes) (old .back)) (refused n)
+  planning-refused n f =
+      let e : plannedFor old bs ≡ refused n = on-refused plannedFigures (plannedFor old bs) (sym (p .answers) ∙ f) in
+      record {
+        answers = ap (onFigures answerOf) (then-refused _ _ e);
+        spreads = p .spreads;
+        records = p .records;
+        writes = ap (λ (a : Answer (List ℕ)). filled a (old .bytes)) (then-refused _ _ e);
+        reads = ap (λ (a : Answer Cutting). withRecords a (old .back)) (then-refused _ _ e);
+      }
+
+  module _ (y : PlannedOrder) (f : found ≡ figures y) where
+    found-plan : (x : Planned) × (plannedFor old bs ≡ figures x) × (plannedFigures x ≡ y)
+    found-plan = on-figures plannedFigures (plannedFor old bs) (sym (p .answers) ∙ f)
+
+    abbrev x : Planned
+    x = found-plan .0
+
+    is : IsPlanned (length (old .demands)) (roomIn (old .plan)) bs x
+    is = is-planned (length (old .demands)) (roomIn (old .plan)) bs x (found-plan .1)
+
+    periods-is : y .order .periods ≡ length (x .demands)
+    periods-is =
+        ap (λ (z : PlannedOrder). z .order .periods) (sym (found-plan .2))
+        ∙ sym (planned-count (length (old .demands)) (roomIn (old .plan)) bs x is)
+
+    -- the T numbers spread
+    trace-is : take (y .order .periods) demands′ ≡ x .demands
+    trace-is =
+        ap (λ (n : ℕ). take n demands′) periods-is
+        ∙ ap (take (length (x .demands))) (p .spreads ∙ ap (λ (a : Answer (List ℕ)). filled a (old .demands)) (sym (then-figures _ _ (is .read)) ∙ is .spread))
+        ∙ filled-front (x .demands) (old .demands)
+
+    pub trace-count : length (take (y .order .periods) demands′) ≡ y .order .periods
+    trace-count = ap length trace-is ∙ sym periods-is
+
+    pub trace-inside : y .order .periods ≤ length demands′
+    trace-inside = omega (arith, trace-count, length-take (y .order .periods) demands′)
+
+    plan-is : plan′ ≡ withRecords (figures (x .cutting)) (old .plan)
+    plan-is = p .records ∙ ap (λ (a : Answer Planned). withRecords (cuttingOf a) (old .plan)) (found-plan .1)
+
+    answers-so : (a : Answer Recording) → onFigures bookingOf a ≡ onFigures answerOf (onFigures (λ z. record { planning = x; recording = z }) a)
+    answers-so (figures z) = refl
+    answers-so (refused n) = refl
+
+    abbrev Recorded-by : PlannedOrder → List ℕ → RecordLists → List ℕ → RecordLists → Answer Booking → Type 0
+    Recorded-by z ds l =
+        RecordsPlan (record { periods = z .order .periods; buckets = z .plan .buckets; cost = z .plan .cost }) (z .order .tariff .factor) ds l (old .bytes) (old .back)
+
+    pub plan-recorded : (bytes′ : List ℕ) (back′ : RecordLists) (answer : Answer Booking)
+        → RecordsPlan (record { periods = y .order .periods; buckets = y .plan .buckets; cost = y .plan .cost }) (y .order .tariff .factor) (take (y .order .periods) demands′) plan′ (old .bytes) (old .back) bytes′ back′ answer
+        → Called bs old (lent demands′ plan′ bytes′ back′) answer
+    plan-recorded bytes′ back′ answer r =
+        let a = subst (λ (ds : List ℕ). Recorded-by y ds plan′ bytes′ back′ answer) trace-is r in
+        let b = subst (λ (l : RecordLists). Recorded-by y (x .demands) l bytes′ back′ answer) plan-is a in
+        let c = subst (λ (z : PlannedOrder). Recorded-by z (x .demands) (withRecords (figures (x .cutting)) (old .plan)) bytes′ back′ answer) (sym (found-plan .2)) b in
+        record {
+          answers = c .answers ∙ answers-so (recordingFor old x) ∙ ap (onFigures answerOf) (then-figures (plannedFor old bs) _ (found-plan .1));
+          spreads = p .spreads;
+          records = p .records;
+          writes = c .writes ∙ ap (λ (d : Answer (List ℕ)). filled d (old .bytes)) (then-figures (plannedFor old bs) (writtenFor old) (found-plan .1));
+          reads = c .reads ∙ ap (λ (d : Answer Cutting). withRecords d (old .back)) (then-figures (plannedFor old bs) (readFor old) (found-plan .1));
+        }

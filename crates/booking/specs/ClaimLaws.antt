@@ -1,0 +1,196 @@
+-- The claim holds of whatever answers as the list of calls does and leaves what it leaves. Where an order is read and what is
+-- lent is long enough, the series call alone decides: it finds no cutting, and there is none, or every step after it succeeds.
+-- Assumes nothing.
+use Prim.Native.Nat.{ℕ, _≤_}
+use mathlib.Core.Path.{_≡_, refl, sym, ap, subst, _∙_}
+use mathlib.Core.List.{List}
+use mathlib.Core.Logic.{_⊎_, inl, inr, ⊎-elim}
+use borrow.Author.Tests.{le-leb}
+use lib.Dec.{leb}
+use lib.ListN.{length, take}
+use Rattle.terms.specs.declared.Tariff.{Tariff}
+use Rattle.terms.specs.Answer.{Answer, figures, refused, onFigures, andThen}
+use Rattle.terms.specs.AnswerLaws.{figures-refused, on-figures, on-refused, weigh-figures, then-figures, then-refused}
+use Rattle.terms.specs.Lent.{filled}
+use Rattle.terms.specs.LentLaws.{filled-front}
+use Rattle.terms.specs.RangeLaws.{PeriodsRange, periods-ok, tariff-ok}
+use Rattle.terms.specs.Records.{Cutting, Each, runLength}
+use Rattle.series.specs.Cutting.{none, run}
+use Rattle.series.specs.Series.{Carried, seriesOf}
+use Rattle.series.specs.SeriesLaws.{series-none, series-refuses}
+use Rattle.encoding.specs.NumberLaws.{Bytes}
+use Rattle.order_file.specs.declared.orders.Order.{Order}
+use Rattle.order_file.specs.Order.{tariffIn, readOrder, tracePart, demandsIn, spreadOf}
+use Rattle.order_file.specs.OrderLaws.{demands-count, read-spread}
+use Rattle.order_file.specs.OrderRules.{OrderRules, orderIn, rules-read, read-rules}
+use Rattle.plan_file.specs.Plan.{Recorded, fitting, planIn, recordsOf}
+use Rattle.plan_file.specs.PlanLaws.{lists-hold}
+use Rattle.booking.specs.declared.calls.Booking.{Booking}
+use Rattle.booking.specs.Booking.{RecordLists, Lent, Planned, Steps, lent, lists, roomIn, planned, plannedFor, plannedRuns, booked, answerOf, lentAfter}
+use Rattle.booking.specs.BookingLaws.{IsPlanned, is-planned, order-demands, planned-series, planned-demands, planned-order}
+use Rattle.booking.specs.Claim.{periodsIn, demandsAt, CarriedIn, SeriesAnswer, LongEnough, InsideCaps, Kept, Demand3, Claim}
+use Rattle.booking.specs.StepLaws.{fileOf, recordingOf, file-fits, file-read, planned-meters, steps-figures, figures-left, refused-left}
+use Rattle.booking.specs.CallLaws.{Called, writtenFor}
+use Rattle.booking.specs.FrontLaws.{Front, restored}
+
+-- ---- A carried cutting is inside the caps
+
+carried-caps : (bs : List ℕ) {ds : List ℕ} {xs : Cutting} → Carried (tariffIn bs) ds xs → Each (InsideCaps bs) xs
+carried-caps bs none = tt
+carried-caps bs (run f c) = (record { rate = f .fits .rates; depth = f .fits .depths }, carried-caps bs c)
+
+-- What reading into lists gives is what the file holds.
+fits-file : (room : ℕ) (a : Answer Recorded) (y : Recorded) → fitting room a ≡ figures y → a ≡ figures y
+fits-file room (figures x) y e = let f = weigh-figures (leb (length (x .buckets)) room) 6 (figures x) e in f .1
+fits-file room (refused n) y e = absurd (figures-refused (sym e))
+
+-- ---- The two outcomes
+
+module _ (bs : List ℕ) (h : Bytes bs) (old after : Lent) (answer : Answer Booking) (answers : answer ≡ onFigures answerOf (booked old bs)) (leaves : after ≡ lentAfter (booked old bs) old) where
+  module _ (o : Order) (e : readOrder bs ≡ figures o) (long : LongEnough bs old) where
+    order-is : o ≡ orderIn bs
+    order-is = read-rules bs o e .1
+
+    rules : OrderRules bs
+    rules = read-rules bs o e .0
+
+    abbrev ds : List ℕ
+    ds = demandsAt bs
+
+    abbrev t : Tariff
+    t = tariffIn bs
+
+    spreads : spreadOf (length (old .demands)) (tracePart bs) ≡ figures ds
+    spreads =
+        read-spread bs o e (length (old .demands)) (subst (λ (x : Order). x .periods ≤ length (old .demands)) (sym order-is) (long .spreading))
+        ∙ ap figures (order-demands bs o e)
+
+    -- planning rests with the series call
+    planned-so : plannedFor old bs ≡ plannedRuns (orderIn bs) ds (roomIn (old .plan))
+    planned-so =
+        sym (then-figures (readOrder bs) (λ o. andThen (spreadOf (length (old .demands)) (tracePart bs)) (λ ds. plannedRuns o ds (roomIn (old .plan)))) (e ∙ ap figures order-is))
+        ∙ sym (then-figures (spreadOf (length (old .demands)) (tracePart bs)) (λ ds. plannedRuns (orderIn bs) ds (roomIn (old .plan))) spreads)
+
+    count : length ds ≡ periodsIn bs
+    count = ap length (sym (order-demands bs o e)) ∙ demands-count bs o e ∙ ap (λ (x : Order). x .periods) order-is
+
+    abbrev series : Answer Cutting
+    series = seriesOf t (roomIn (old .plan)) ds
+
+    -- ---- no cutting
+
+    module _ (n : ℕ) (s : series ≡ refused n) where
+      n-is-7 : n ≡ 7
+      n-is-7 =
+          let p = subst PeriodsRange (sym count) (rules .periods) in
+          let l = subst (λ (m : ℕ). m ≤ roomIn (old .plan)) (sym count) (long .planning) in
+          series-refuses t ds (roomIn (old .plan)) (periods-ok _ p) (tariff-ok t (rules .tariff)) (le-leb _ _ l) n s
+
+      none-is-7 : series ≡ refused 7
+      none-is-7 = s ∙ ap refused n-is-7
+
+      answers-7 : answer ≡ refused 7
+      answers-7 =
+          let p : plannedFor old bs ≡ refused 7 = planned-so ∙ ap (onFigures (λ xs. record { order = orderIn bs; demands = ds; cutting = xs })) none-is-7 in
+          answers ∙ ap (onFigures answerOf) (sym (then-refused (plannedFor old bs) _ p))
+
+      no-cutting : (xs : Cutting) → CarriedIn bs xs → ⊥
+      no-cutting = series-none t ds (roomIn (old .plan)) none-is-7
+
+    -- ---- a plan
+
+    module _ (xs : Cutting) (s : series ≡ figures xs) where
+      abbrev x : Planned
+      x = record { order = orderIn bs; demands = ds; cutting = xs }
+
+      planned-is : plannedFor old bs ≡ figures x
+      planned-is = planned-so ∙ ap (onFigures (λ ys. record { order = orderIn bs; demands = ds; cutting = ys })) s
+
+      is : IsPlanned (length (old .demands)) (roomIn (old .plan)) bs x
+      is = is-planned (length (old .demands)) (roomIn (old .plan)) bs x planned-is
+
+      is-answer : SeriesAnswer bs xs
+      is-answer = planned-series (length (old .demands)) (roomIn (old .plan)) bs x is
+
+      abbrev file : List ℕ
+      file = fileOf old x
+
+      written-is : writtenFor old x ≡ figures file
+      written-is = file-fits bs h old x is (long .reading xs is-answer) (long .writing xs is-answer)
+
+      abbrev steps : Steps
+      steps = record { planning = x; recording = recordingOf bs h old x is file }
+
+      booked-is : booked old bs ≡ figures steps
+      booked-is = steps-figures bs h old x is planned-is file written-is
+
+      after-is : after ≡ lentAfter (figures steps) old
+      after-is = leaves ∙ ap (λ (a : Answer Steps). lentAfter a old) booked-is
+
+      kept : Kept bs old after answer steps
+      kept =
+          record {
+            no-step-refuses = booked-is;
+            answered = answers ∙ ap (onFigures answerOf) booked-is;
+            recorded =
+                ap (λ (l : Lent). planIn (take (length file) (l .bytes))) after-is
+                ∙ ap planIn (filled-front file (old .bytes))
+                ∙ fits-file (roomIn (old .back)) (planIn file) _ (file-read bs h old x is file written-is);
+            recorded-lists =
+                ap (λ (l : Lent). recordsOf (length xs) (l .back .runs) (l .back .rates) (l .back .depths)) after-is
+                ∙ lists-hold xs (old .back .runs) (old .back .rates) (old .back .depths);
+            recorded-periods = refl;
+            is-series-answer = is-answer;
+            carried = is-answer .carried;
+            nothing-discarded = planned-meters bs h old x is .2;
+            inside-caps = carried-caps bs (is-answer .carried);
+            true-cost = refl;
+            no-dearer-than-any = is-answer .cheapest;
+          }
+
+    -- ---- one of the two
+
+    abbrev NoPlan : Type 0
+    NoPlan = (answer ≡ refused 7) × ((xs : Cutting) → CarriedIn bs xs → ⊥)
+
+    abbrev Plan : Type 0
+    Plan = (s : Steps) × Kept bs old after answer s
+
+    outcome : NoPlan ⊎ Plan
+    outcome = go series refl
+      where
+        go : (a : Answer Cutting) → series ≡ a → NoPlan ⊎ Plan
+        go (figures xs) s = inr (steps xs s, kept xs s)
+        go (refused n) s = inl (answers-7 n s, no-cutting n s)
+
+    not-both : (s : Steps) → Kept bs old after answer s → answer ≡ refused 7 → ⊥
+    not-both s k e = figures-refused (sym (k .answered) ∙ e)
+
+    demand-met : Demand3 bs old after answer
+    demand-met =
+        record {
+          no-plan-only = λ e. ⊎-elim (λ n. n .1) (λ k. absurd (not-both (k .0) (k .1) e)) outcome;
+          no-plan-always = λ none. ⊎-elim (λ n. n .0) (λ k. absurd (none _ (k .1 .carried))) outcome;
+          otherwise = λ not. ⊎-elim (λ n. absurd (not (n .0))) (λ k. k) outcome;
+        }
+
+  -- ---- The claim
+
+  pub claim-holds : Claim bs old after answer
+  claim-holds = record { answers = answers; leaves = leaves; reads-every-order = rules-read bs; demand-3 = demand-met }
+
+-- What was called, and after a refusal put back, keeps the claim.
+module _ (bs : List ℕ) (h : Bytes bs) (old : Lent) (demands : List ℕ) (plan : RecordLists) (bytes : List ℕ) (back : RecordLists) (answer : Answer Booking) (c : Called bs old (lent demands plan bytes back) answer) where
+  pub booked-claim : (x : Booking) → answer ≡ figures x → Claim bs old (lent demands plan bytes back) answer
+  booked-claim x e =
+      let s = on-figures answerOf (booked old bs) (sym (c .answers) ∙ e) in
+      claim-holds bs h old _ answer (c .answers) (figures-left bs old demands plan bytes back answer c (s .0) (s .1))
+
+  module _ (ds runs rates depths : List ℕ) (fd : Front (old .demands) ds) (fr : Front (old .plan .runs) runs) (fs : Front (old .plan .rates) rates) (ft : Front (old .plan .depths) depths) where
+    pub refused-claim : (n : ℕ) → answer ≡ refused n → (ds′ runs′ rates′ depths′ : List ℕ)
+        → ds′ ≡ restored ds demands → runs′ ≡ restored runs (plan .runs) → rates′ ≡ restored rates (plan .rates) → depths′ ≡ restored depths (plan .depths)
+        → Claim bs old (lent ds′ (lists runs′ rates′ depths′) bytes back) answer
+    refused-claim n e ds′ runs′ rates′ depths′ ed er es et =
+        let r = on-refused answerOf (booked old bs) (sym (c .answers) ∙ e) in
+        let same : lent ds′ (lists runs′ rates′ depths′) bytes back ≡ lent (restored ds demands) (lists (restored runs (plan .runs)) (restored rates (plan .rates)) (restored depths (plan .depths))) bytes back = rw (ed, er, es, et) in
+        claim-holds bs h old _ answer (c .answers) (same ∙ refused-left bs old demands plan bytes back answer c ds runs rates depths fd fr fs ft h n r)

@@ -1,0 +1,9 @@
+-- The definitions that contracts cite, and their laws.
+pub mod Booking
+pub mod Claim
+pub mod FrontLaws
+pub mod MeteringLaws
+pub mod BookingLaws
+pub mod CallLaws
+pub mod StepLaws
+pub mod ClaimLaws
