@@ -143,14 +143,7 @@ fn row_j() {
             let m = bucket::offer(m, 8).meter;
             let m = bucket::offer(m, 2).meter;
             let m = bucket::offer(m, 9).meter;
-            report::words(b" sent");
-            report::number(m.sent);
-            report::words(b" over");
-            report::number(m.over);
-            report::words(b" lost");
-            report::number(m.lost);
-            report::words(b" tokens");
-            report::number(m.held as u64);
+            report::totals(m.sent, m.over, m.lost, m.held as u64);
         }
         MeterAnswer::Refused(x) => report::refusal(x),
     }

@@ -1,17 +1,13 @@
-// A trace of uneven demands, and the list of demands that spreading is lent.
+// A trace of uneven demands, and the list of demands that spreading has filled.
 use encoding::FillAnswer;
+use samples::demands::are_lent;
+use samples::lists::ENTRIES;
 use samples::lists::at_most;
 ghost use mathlib.Core.Path.{_≡_};
 ghost use lib.ListN.{length};
 
 // As many periods as an order takes.
 pub const PERIODS: usize = 512;
-
-// Some more entries than a trace has periods.
-pub const ENTRIES: usize = 516;
-
-// What the entries of a lent list hold before a call.
-pub const LENT_DEMAND: u16 = 43_690;
 
 // Demands in no order, from 0 to the greatest. The length is promised so that the array can be lent.
 pub fn uneven() -> [u16; PERIODS]
@@ -25,15 +21,6 @@ pub fn uneven() -> [u16; PERIODS]
     trace[2] = 256;
     trace[511] = 65_535;
     trace
-}
-
-// The first entries of a list, to be written to; all where there are fewer.
-pub fn lent_entries(list: &mut [u16], entries: usize) -> &mut [u16] {
-    if entries <= list.len() {
-        &mut list[..entries]
-    } else {
-        list
-    }
 }
 
 // How many demands there are, and the first.
@@ -59,7 +46,7 @@ pub fn print_list(answer: FillAnswer, list: &[u16; ENTRIES]) {
         report::words(b" checksum");
         report::number(checksum(list, count) as u64);
     }
-    report::kept(is_kept(list, count));
+    report::kept(are_lent(list, count));
 }
 
 // A number that each of the first demands and its place enter.
@@ -73,16 +60,6 @@ fn checksum(list: &[u16; ENTRIES], count: usize) -> u32 {
 
 fn with_demand(sum: u32, demand: u16) -> u32 {
     (sum % 1_000_003 * 257 + demand as u32) % 1_000_003
-}
-
-// Whether the entries from one on are as they were lent.
-fn is_kept(list: &[u16; ENTRIES], start: usize) -> bool {
-    for i in start..ENTRIES {
-        if list[i] != LENT_DEMAND {
-            return false;
-        }
-    }
-    true
 }
 
 // Whether the trace stands at the front of the list.

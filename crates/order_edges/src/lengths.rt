@@ -1,7 +1,5 @@
 // Orders of 1 and of 512 periods, written, read and spread; and files around the longest.
 use crate::damaged::reading;
-use crate::demands::ENTRIES;
-use crate::demands::LENT_DEMAND;
 use crate::demands::is_front;
 use crate::demands::print_length;
 use crate::demands::print_list;
@@ -9,9 +7,11 @@ use crate::demands::uneven;
 use order_file::spread;
 use order_file::trace_part;
 use order_file::write_order;
+use samples::demands::LENT_DEMAND;
 use samples::file_bytes::LENT;
 use samples::file_bytes::LENT_BYTES;
 use samples::file_bytes::front;
+use samples::lists::ENTRIES;
 use samples::tariffs::printed_case;
 
 pub fn edges() {

@@ -1,10 +1,10 @@
 // Parts of every kind of length spread into lists that are too short, just long enough and longer.
-use crate::demands::ENTRIES;
-use crate::demands::LENT_DEMAND;
-use crate::demands::lent_entries;
 use crate::demands::print_list;
 use order_file::spread;
+use samples::demands::LENT_DEMAND;
+use samples::demands::lent_demands;
 use samples::file_bytes::front;
+use samples::lists::ENTRIES;
 ghost use mathlib.Core.Path.{_≡_};
 ghost use lib.ListN.{length};
 
@@ -42,7 +42,7 @@ pub fn edges() {
 fn edge(part: usize, list: usize) {
     let bytes = part_bytes();
     let mut demands = [LENT_DEMAND; ENTRIES];
-    let answer = spread(front(&bytes, part), lent_entries(&mut demands, list));
+    let answer = spread(front(&bytes, part), lent_demands(&mut demands, list));
     report::words(b"part of");
     report::number(part as u64);
     report::words(b" in a list of");

@@ -52,9 +52,7 @@ fn edge(words: [u32; WORDS], length: usize, lent: Lengths) {
 
 pub fn print_lengths(lent: Lengths) {
     report::words(b"lists");
-    report::number(lent.runs as u64);
-    report::number(lent.rates as u64);
-    report::number(lent.depths as u64);
+    report::lengths(lent);
     report::words(b", ");
 }
 

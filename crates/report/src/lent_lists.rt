@@ -1,12 +1,21 @@
 // The three lists of a plan's buckets, which all have one length.
+use crate::number;
 use crate::record;
 use crate::words;
 use samples::lists::ENTRIES;
+use samples::lists::Lengths;
 use samples::lists::are_kept;
 use terms::Bucket;
 use terms::BucketRecord;
 use terms::Depth;
 use terms::Rate;
+
+// How many entries are lent of each.
+pub fn lengths(lent: Lengths) {
+    number(lent.runs as u64);
+    number(lent.rates as u64);
+    number(lent.depths as u64);
+}
 
 // The buckets, and whether every entry after them is as it was filled beforehand.
 pub fn lists(

@@ -14,6 +14,7 @@ pub use file_answers::tariff;
 pub use file_bytes::hex_lines;
 pub use file_bytes::written;
 pub use lent_lists::kept;
+pub use lent_lists::lengths;
 pub use lent_lists::lists;
 use libc::STDOUT_FILENO;
 use series::SeriesAnswer;
@@ -32,6 +33,12 @@ pub fn words(text: &[u8]) {
 pub fn number(n: u64) {
     words(b" ");
     io::print_decimal(STDOUT_FILENO, n);
+}
+
+// What a number is, and the number.
+pub fn figure(name: &[u8], n: u64) {
+    words(name);
+    number(n);
 }
 
 // A space and a signed number.
@@ -82,6 +89,14 @@ pub fn trial(a: TrialAnswer) {
         TrialAnswer::Refused(x) => refusal(x),
     }
     end_line();
+}
+
+// What a meter sent, discarded, lost and holds; the line goes on.
+pub fn totals(sent: u64, over: u64, lost: u64, held: u64) {
+    figure(b" sent", sent);
+    figure(b" over", over);
+    figure(b" lost", lost);
+    figure(b" tokens", held);
 }
 
 // The depth, or the refusal.

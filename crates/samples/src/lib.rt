@@ -1,5 +1,6 @@
 // The tariffs, traces, lent lists, file bytes and plain searches that the test programs share. For
 // them alone.
+pub mod demands;
 pub mod file_bytes;
 pub mod lists;
 pub mod plain;

@@ -92,3 +92,13 @@ fn is_kept(list: &[u32; ENTRIES], from: u32, start: usize) -> bool
     }
     true
 }
+
+// Whether two lists hold the same.
+pub fn same(a: &[u32; ENTRIES], b: &[u32; ENTRIES]) -> bool {
+    for i in 0..ENTRIES {
+        if a[i] != b[i] {
+            return false;
+        }
+    }
+    true
+}

@@ -1,14 +1,14 @@
--- Each entry from the start on is compared at most once.
+-- Each entry is compared at most once.
 use Prim.Native.Nat.{_-_, _≤_}
 use borrow.Author.Needs.{needs}
-use Rattle.order_edges.proofs.demands.is_kept.Statement.{statement}
-use Rattle.order_edges.proofs.demands.is_kept.Tie as tie
+use Rattle.samples.proofs.lists.same.Statement.{statement}
+use Rattle.samples.proofs.lists.same.Tie as tie
 
 abbrev Inv-loop : tie.InvT-loop
-Inv-loop list start i₀ i = start ≤ i
+Inv-loop a b i₀ i = i ≤ 516
 
 abbrev μ-loop : tie.MeasureT-loop
-μ-loop list start i₀ i = 516 - i
+μ-loop a b i₀ i = 516 - i
 
 loop-holds : tie.Need-loop-holds Inv-loop μ-loop
 loop-holds c = search needs
@@ -18,6 +18,12 @@ mul-if1 c = search needs
 
 element-copy-out-if1 : tie.Need-element-copy-out-if1 Inv-loop μ-loop
 element-copy-out-if1 c = search needs
+
+mul-if1-2 : tie.Need-mul-if1-2 Inv-loop μ-loop
+mul-if1-2 c = search needs
+
+element-copy-out-if1-2 : tie.Need-element-copy-out-if1-2 Inv-loop μ-loop
+element-copy-out-if1-2 c = search needs
 
 returns : tie.Need-returns Inv-loop μ-loop
 returns c = search needs
@@ -34,8 +40,8 @@ loop-again c = search needs
 returns-2 : tie.Need-returns-2 Inv-loop μ-loop
 returns-2 c = search needs
 
-pub is-kept-spec : {M : Type 1} → statement M
-is-kept-spec =
+pub same-spec : {M : Type 1} → statement M
+same-spec =
     tie.close
     (tie.spec
     Inv-loop
@@ -43,6 +49,8 @@ is-kept-spec =
     loop-holds
     mul-if1
     element-copy-out-if1
+    mul-if1-2
+    element-copy-out-if1-2
     returns
     add-i
     loop-less

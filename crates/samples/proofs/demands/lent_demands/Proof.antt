@@ -3,8 +3,8 @@ use mathlib.Core.Path.{sym}
 use lib.Seq.{length-take-le}
 use native.Mathlib.Omega.{arith}
 use borrow.Author.Needs.{needs}
-use Rattle.order_edges.proofs.demands.lent_entries.Statement.{statement}
-use Rattle.order_edges.proofs.demands.lent_entries.Tie as tie
+use Rattle.samples.proofs.demands.lent_demands.Statement.{statement}
+use Rattle.samples.proofs.demands.lent_demands.Tie as tie
 
 slice-aggregate-result : tie.Need-slice-aggregate-result
 slice-aggregate-result c = sym (length-take-le _ _ (omega arith))
@@ -15,5 +15,5 @@ returns c = search needs
 returns-2 : tie.Need-returns-2
 returns-2 c = search needs
 
-pub lent-entries-spec : {M : Type 1} → statement M
-lent-entries-spec = tie.close (tie.spec slice-aggregate-result returns returns-2)
+pub lent-demands-spec : {M : Type 1} → statement M
+lent-demands-spec = tie.close (tie.spec slice-aggregate-result returns returns-2)
