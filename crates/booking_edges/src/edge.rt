@@ -85,7 +85,8 @@ fn book_in(order: &[u8], rooms: Rooms) {
 fn print_answer(answer: BookingAnswer) {
     match answer {
         BookingAnswer::Booked(x) => {
-            report::plan(PlanAnswer::Read(x.plan));
+            let plan = x.plan;
+            report::plan(PlanAnswer::Read(plan));
             report::figure(b" length", x.length as u64);
             report::totals(x.meters.sent, x.meters.over, x.meters.lost, x.meters.held);
         }

@@ -1,8 +1,8 @@
-// Orders of one to three periods at odd tariffs, and an order of 512 periods.
+// Orders of one to five periods, and an order of 512 periods.
 use crate::edge::edge;
 use crate::rooms::Rooms;
 use crate::rooms::ample;
-use crate::rooms::rooms;
+use crate::rooms::rooms_of;
 use samples::lists::ENTRIES;
 use samples::lists::of_each;
 use samples::tariffs::from_empty;
@@ -41,9 +41,9 @@ fn two_thirds(rate: u32, depth: u32, fee: u32) -> Tariff {
 
 // 512 periods and 23 buckets, in a file of 308 bytes: just enough, a byte short and an entry short.
 pub fn feature_edges() {
-    feature_in(rooms(512, of_each(512), 308, of_each(23)));
-    feature_in(rooms(ENTRIES, of_each(ENTRIES), 307, of_each(ENTRIES)));
-    feature_in(rooms(511, of_each(512), 308, of_each(23)));
+    feature_in(rooms_of(512, of_each(512), 308, of_each(23)));
+    feature_in(rooms_of(ENTRIES, of_each(ENTRIES), 307, of_each(ENTRIES)));
+    feature_in(rooms_of(511, of_each(512), 308, of_each(23)));
 }
 
 fn feature_in(rooms: Rooms) {

@@ -4,7 +4,7 @@ use crate::edge::edge_of;
 use crate::rooms::Rooms;
 use crate::rooms::ample;
 use crate::rooms::nothing;
-use crate::rooms::rooms;
+use crate::rooms::rooms_of;
 use order_file::write_order;
 use samples::file_bytes::LENT;
 use samples::file_bytes::LENT_BYTES;
@@ -27,7 +27,7 @@ fn printed_order() -> [u8; LENT_BYTES] {
     file
 }
 
-// Refusals 1 to 5; the last order has a demand too few besides.
+// Refusals 1 to 5; the last order breaks two rules.
 fn refused_orders() {
     let good = printed_order();
     let mut kind = good;
@@ -54,11 +54,11 @@ fn refused(name: &[u8], file: [u8; LENT_BYTES], length: usize) {
 // the other lists and the bytes could be too short for.
 fn no_plan() {
     no_plan_in(ample());
-    no_plan_in(rooms(2, of_each(2), 0, of_each(0)));
-    no_plan_in(rooms(1, of_each(2), 44, of_each(1)));
-    no_plan_in(rooms(2, lent(1, 2, 2), 44, of_each(1)));
-    no_plan_in(rooms(2, lent(2, 1, 2), 44, of_each(1)));
-    no_plan_in(rooms(2, lent(2, 2, 1), 44, of_each(1)));
+    no_plan_in(rooms_of(2, of_each(2), 0, of_each(0)));
+    no_plan_in(rooms_of(1, of_each(2), 44, of_each(1)));
+    no_plan_in(rooms_of(2, lent(1, 2, 2), 44, of_each(1)));
+    no_plan_in(rooms_of(2, lent(2, 1, 2), 44, of_each(1)));
+    no_plan_in(rooms_of(2, lent(2, 2, 1), 44, of_each(1)));
 }
 
 fn no_plan_in(rooms: Rooms) {

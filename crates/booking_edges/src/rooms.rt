@@ -18,7 +18,7 @@ pub struct Rooms {
     pub back: Lengths,
 }
 
-pub fn rooms(demands: usize, lists: Lengths, bytes: usize, back: Lengths) -> Rooms {
+pub fn rooms_of(demands: usize, lists: Lengths, bytes: usize, back: Lengths) -> Rooms {
     Rooms {
         demands,
         lists,
@@ -29,11 +29,11 @@ pub fn rooms(demands: usize, lists: Lengths, bytes: usize, back: Lengths) -> Roo
 
 // More than any order needs.
 pub fn ample() -> Rooms {
-    rooms(ENTRIES, of_each(ENTRIES), LENT_BYTES, of_each(ENTRIES))
+    rooms_of(ENTRIES, of_each(ENTRIES), LENT_BYTES, of_each(ENTRIES))
 }
 
 pub fn nothing() -> Rooms {
-    rooms(0, of_each(0), 0, of_each(0))
+    rooms_of(0, of_each(0), 0, of_each(0))
 }
 
 pub fn print_rooms(x: Rooms) {
@@ -55,21 +55,21 @@ fn printed_in(rooms: Rooms) {
 // Three periods and two buckets, in a file of 56 bytes; and three buckets with fee 3.
 pub fn edges() {
     let trace = CASE;
-    printed_in(rooms(3, of_each(3), 56, of_each(2)));
+    printed_in(rooms_of(3, of_each(3), 56, of_each(2)));
     edge(
         b"4,8,2 with fee 3",
         with_fee(3),
         &trace,
-        rooms(3, of_each(3), 68, of_each(3)),
+        rooms_of(3, of_each(3), 68, of_each(3)),
     );
-    printed_in(rooms(2, of_each(3), 56, of_each(2)));
-    printed_in(rooms(3, lent(2, 3, 3), 56, of_each(2)));
-    printed_in(rooms(3, lent(3, 2, 3), 56, of_each(2)));
-    printed_in(rooms(3, lent(3, 3, 2), 56, of_each(2)));
-    printed_in(rooms(3, of_each(3), 55, of_each(2)));
-    printed_in(rooms(3, of_each(3), 56, lent(1, 2, 2)));
-    printed_in(rooms(3, of_each(3), 56, lent(2, 1, 2)));
-    printed_in(rooms(3, of_each(3), 56, lent(2, 2, 1)));
-    printed_in(rooms(ENTRIES, of_each(ENTRIES), 55, of_each(ENTRIES)));
+    printed_in(rooms_of(2, of_each(3), 56, of_each(2)));
+    printed_in(rooms_of(3, lent(2, 3, 3), 56, of_each(2)));
+    printed_in(rooms_of(3, lent(3, 2, 3), 56, of_each(2)));
+    printed_in(rooms_of(3, lent(3, 3, 2), 56, of_each(2)));
+    printed_in(rooms_of(3, of_each(3), 55, of_each(2)));
+    printed_in(rooms_of(3, of_each(3), 56, lent(1, 2, 2)));
+    printed_in(rooms_of(3, of_each(3), 56, lent(2, 1, 2)));
+    printed_in(rooms_of(3, of_each(3), 56, lent(2, 2, 1)));
+    printed_in(rooms_of(ENTRIES, of_each(ENTRIES), 55, of_each(ENTRIES)));
     printed_in(nothing());
 }
