@@ -17,7 +17,7 @@ use Rattle.order_file.specs.Order.{traceOffset, tariffIn, readOrder}
 use Rattle.order_file.specs.OrderRules.{OrderRules, orderIn}
 use Rattle.plan_file.specs.Plan.{planIn, planLength, recordsOf}
 use Rattle.booking.specs.declared.calls.Booking.{Booking}
-use Rattle.booking.specs.Booking.{Lent, roomIn, Steps, booked, answerOf, lentAfter}
+use Rattle.booking.specs.Booking.{Lent, roomIn, Steps, metersOf, booked, answerOf, lentAfter}
 
 -- ---- What the sentences speak of, in the bytes of an order file
 
@@ -71,7 +71,8 @@ pub record Kept (bs : List ℕ) (lent after : Lent) (answer : Answer Booking) (s
   pub is-series-answer : SeriesAnswer bs (s .recording .plan .buckets)
   -- "and is itself carried in that way,"
   pub carried : CarriedIn bs (s .recording .plan .buckets)
-  -- "and the meters discard nothing."
+  -- "and the meters discard nothing.": those on the recorded buckets, with the order's p and q, offered the demands in the file
+  pub metered : metersOf (tariffIn bs .factor) (demandsAt bs) (s .recording .plan .buckets) ≡ figures (s .recording .meters)
   pub nothing-discarded : Each (λ m. m .over ≡ 0) (s .recording .meters)
   -- "Every recorded rate and depth is inside the caps,"
   pub inside-caps : Each (InsideCaps bs) (s .recording .plan .buckets)

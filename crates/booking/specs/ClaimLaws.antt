@@ -142,6 +142,7 @@ module _ (bs : List ℕ) (h : Bytes bs) (old after : Lent) (answer : Answer Book
             recorded-periods = refl;
             is-series-answer = is-answer;
             carried = is-answer .carried;
+            metered = planned-meters bs h old x is .1;
             nothing-discarded = planned-meters bs h old x is .2;
             inside-caps = carried-caps bs (is-answer .carried);
             true-cost = refl;
