@@ -1,38 +1,33 @@
 -- What the list of calls gives: the order's own figures and demands, the series answer for them, the same plan read back, and
 -- meters that refuse and discard nothing.
 -- Assumes nothing.
-use Prim.Native.Nat.{ℕ, zero, suc, _+_, _*_, _/_, _^_, _≤_, _<_}
+use Prim.Native.Nat.{ℕ, zero, suc, _+_, _/_, _^_, _≤_, _<_}
 use native.Mathlib.Omega.{arith}
 use native.Mathlib.Nat.{le-trans, pow-suc}
 use mathlib.Core.Path.{_≡_, refl, sym, ap, ap₂, subst, _∙_}
-use mathlib.Core.Bool.{Bool, true}
 use mathlib.Core.List.{List, [], _∷_}
-use borrow.Author.Tests.{leb-true, le-leb}
 use lib.Dec.{leb}
 use lib.ListN.{length, take, drop, getD, length-take, length-drop}
 use lib.Seq.{drop-drop}
-use Rattle.terms.specs.declared.Bucket.{Bucket}
 use Rattle.terms.specs.declared.BucketRecord.{BucketRecord}
-use Rattle.terms.specs.declared.Factor.{Factor}
 use Rattle.terms.specs.declared.Tariff.{Tariff}
-use Rattle.terms.specs.Answer.{Answer, figures, refused, weigh, onFigures, andThen}
-use Rattle.terms.specs.AnswerLaws.{same-figures, weigh-figures, on-figures, then-figures, then-found}
-use Rattle.terms.specs.Limits.{demandLimit, traceLimit, meterLimit, costLimit, feeLimit}
-use Rattle.terms.specs.Lent.{recorded, roomOf}
-use Rattle.terms.specs.RangeLaws.{TariffRange, PeriodsRange, RecordRange, BucketRange, FreshRange, FactorRange}
-use Rattle.terms.specs.Records.{Cutting, Each, runLength, runRate, runDepth, total}
+use Rattle.terms.specs.Answer.{figures}
+use Rattle.terms.specs.AnswerLaws.{same-figures, weigh-figures, on-figures, then-found}
+use Rattle.terms.specs.Limits.{demandLimit, traceLimit, costLimit}
+use Rattle.terms.specs.RangeLaws.{TariffRange, PeriodsRange, RecordRange, FreshRange}
+use Rattle.terms.specs.Records.{Cutting, Each, runLength, total}
 use Rattle.bucket.specs.declared.meters.Meter.{Meter}
 use Rattle.bucket.specs.Laws.{carried-over, demands-take, demands-drop}
-use Rattle.bucket.specs.Meter.{meterRun, meterOn}
+use Rattle.bucket.specs.Meter.{meterOn}
 use Rattle.bucket.specs.MeterRuns.{run-metered}
 use Rattle.bucket.specs.Step.{startOf}
 use Rattle.bucket.specs.Trace.{Demands}
-use Rattle.series.specs.Cutting.{Cuts, FirstRun, none, run}
+use Rattle.series.specs.Cutting.{FirstRun, none, run}
 use Rattle.series.specs.Series.{Carried, ServesRun, seriesOf, trueCost}
 use Rattle.series.specs.OutlineLaws.{carried-count, carried-cost}
 use Rattle.series.specs.SeriesLaws.{Cheapest, series-cheapest}
 use Rattle.encoding.specs.Number.{valueOf, numberAt, itemsAt}
-use Rattle.encoding.specs.NumberLaws.{Bytes, Within, fit-head, fit-tail, fit-drop}
+use Rattle.encoding.specs.NumberLaws.{Bytes, fit-head, fit-tail, fit-drop}
 use Rattle.order_file.specs.declared.orders.Order.{Order}
 use Rattle.order_file.specs.Order.{traceOffset, tariffIn, readOrder, tracePart, demandsIn, partOk, spreadOf}
 use Rattle.order_file.specs.OrderLaws.{demands-count}

@@ -1,13 +1,13 @@
 -- What the list of calls leaves, call by call, before anything is put back.
 -- Assumes nothing.
-use Prim.Native.Nat.{ℕ, _≤_, min}
+use Prim.Native.Nat.{ℕ, _≤_}
 use native.Mathlib.Omega.{arith}
 use mathlib.Core.Path.{_≡_, refl, sym, ap, subst, _∙_}
 use mathlib.Core.Bool.{Bool, true, false}
 use mathlib.Core.List.{List, map}
 use borrow.Author.Tests.{leb-true}
 use lib.Dec.{leb}
-use lib.ListN.{length, take, drop, length-take, length-append, length-drop, length-map}
+use lib.ListN.{length, take, length-take, length-append, length-drop, length-map}
 use Rattle.terms.specs.declared.BucketRecord.{BucketRecord}
 use Rattle.terms.specs.declared.Factor.{Factor}
 use Rattle.terms.specs.Answer.{Answer, figures, refused, weigh, onFigures, andThen}

@@ -8,7 +8,6 @@ use lib.ListN.{length, take}
 use Rattle.terms.specs.declared.BucketRecord.{BucketRecord}
 use Rattle.terms.specs.Answer.{Answer, figures, refused, onFigures}
 use Rattle.terms.specs.Records.{Cutting, runRate, runDepth, Each}
-use Rattle.bucket.specs.declared.meters.Meter.{Meter}
 use Rattle.series.specs.Series.{Carried, trueCost}
 use Rattle.series.specs.SeriesLaws.{Cheapest}
 use Rattle.encoding.specs.Number.{numberAt, itemsAt}

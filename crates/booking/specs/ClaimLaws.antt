@@ -11,23 +11,22 @@ use lib.ListN.{length, take}
 use Rattle.terms.specs.declared.Tariff.{Tariff}
 use Rattle.terms.specs.Answer.{Answer, figures, refused, onFigures, andThen}
 use Rattle.terms.specs.AnswerLaws.{figures-refused, on-figures, on-refused, weigh-figures, then-figures, then-refused}
-use Rattle.terms.specs.Lent.{filled}
 use Rattle.terms.specs.LentLaws.{filled-front}
 use Rattle.terms.specs.RangeLaws.{PeriodsRange, periods-ok, tariff-ok}
-use Rattle.terms.specs.Records.{Cutting, Each, runLength}
+use Rattle.terms.specs.Records.{Cutting, Each}
 use Rattle.series.specs.Cutting.{none, run}
 use Rattle.series.specs.Series.{Carried, seriesOf}
 use Rattle.series.specs.SeriesLaws.{series-none, series-refuses}
 use Rattle.encoding.specs.NumberLaws.{Bytes}
 use Rattle.order_file.specs.declared.orders.Order.{Order}
-use Rattle.order_file.specs.Order.{tariffIn, readOrder, tracePart, demandsIn, spreadOf}
+use Rattle.order_file.specs.Order.{tariffIn, readOrder, tracePart, spreadOf}
 use Rattle.order_file.specs.OrderLaws.{demands-count, read-spread}
 use Rattle.order_file.specs.OrderRules.{OrderRules, orderIn, rules-read, read-rules}
 use Rattle.plan_file.specs.Plan.{Recorded, fitting, planIn, recordsOf}
 use Rattle.plan_file.specs.PlanLaws.{lists-hold}
 use Rattle.booking.specs.declared.calls.Booking.{Booking}
-use Rattle.booking.specs.Booking.{RecordLists, Lent, Planned, Steps, lent, lists, roomIn, planned, plannedFor, plannedRuns, booked, answerOf, lentAfter}
-use Rattle.booking.specs.BookingLaws.{IsPlanned, is-planned, order-demands, planned-series, planned-demands, planned-order}
+use Rattle.booking.specs.Booking.{RecordLists, Lent, Planned, Steps, lent, lists, roomIn, plannedFor, plannedRuns, booked, answerOf, lentAfter}
+use Rattle.booking.specs.BookingLaws.{IsPlanned, is-planned, order-demands, planned-series}
 use Rattle.booking.specs.Claim.{periodsIn, demandsAt, CarriedIn, SeriesAnswer, LongEnough, InsideCaps, Kept, Demand3, Claim}
 use Rattle.booking.specs.StepLaws.{fileOf, recordingOf, file-fits, file-read, planned-meters, steps-figures, figures-left, refused-left}
 use Rattle.booking.specs.CallLaws.{Called, writtenFor}

@@ -14,10 +14,9 @@ use Rattle.terms.specs.declared.Tariff.{Tariff}
 use Rattle.terms.specs.Answer.{Answer, figures, refused, weigh, onFigures, andThen}
 use Rattle.terms.specs.AnswerLaws.{figures-refused, same-figures, weigh-figures, on-figures, then-figures, then-refused, then-found}
 use Rattle.terms.specs.Limits.{traceLimit}
-use Rattle.terms.specs.Lent.{filled, recorded, roomOf}
+use Rattle.terms.specs.Lent.{filled, recorded}
 use Rattle.terms.specs.LentLaws.{rooms}
-use Rattle.terms.specs.Records.{Cutting, Each, runLength, runRate, runDepth}
-use Rattle.bucket.specs.declared.meters.Meter.{Meter}
+use Rattle.terms.specs.Records.{Cutting, runLength, runRate, runDepth}
 use Rattle.bucket.specs.Trace.{Demands}
 use Rattle.series.specs.Series.{Carried, trueCost}
 use Rattle.series.specs.OutlineLaws.{carried-count}
@@ -33,7 +32,7 @@ use Rattle.plan_file.specs.PlanLaws.{write-read, lists-hold}
 use Rattle.plan_file.specs.PlanRules.{counts-ok, write-figures}
 use Rattle.plan_file.specs.RecordLaws.{RecordsRange, records-ok}
 use Rattle.booking.specs.declared.calls.Booking.{Booking}
-use Rattle.booking.specs.Booking.{RecordLists, Lent, Planned, Recording, Steps, lent, lists, roomIn, withRecords, plannedFor, planFigures, written, readBack, metersOf, recordingFor, booked, lentAfter}
+use Rattle.booking.specs.Booking.{RecordLists, Lent, Planned, Recording, Steps, lent, lists, roomIn, withRecords, plannedFor, planFigures, readBack, metersOf, recordingFor, booked, lentAfter}
 use Rattle.booking.specs.BookingLaws.{IsPlanned, is-planned, PlanRange, Discarding, carried-plan, carried-meters, file-demands, planned-count, planned-cheapest, planned-demands, planned-range}
 use Rattle.booking.specs.CallLaws.{Called, cuttingOf, spreadFrom, writtenFor, readFor, room-kept}
 use Rattle.booking.specs.FrontLaws.{Front, FrontOnly, frontLength, filled-front-only, put-back, restored}

@@ -3,7 +3,7 @@
 use terms::limits::TRACE_LIMIT;
 ghost use Prim.Native.Nat.{min, _≤_};
 ghost use mathlib.Core.Path.{_≡_};
-ghost use lib.ListN.{length, take};
+ghost use lib.ListN.{length};
 ghost use lib.Seq.{sets};
 ghost use Rattle.terms.specs.Limits.{traceLimit};
 ghost use Rattle.booking.specs.FrontLaws.{Front, restored};

@@ -5,13 +5,11 @@ use Prim.Native.Nat.{ℕ, zero, suc, _+_, _*_, _≤_, _<_}
 use native.Mathlib.Omega.{arith}
 use mathlib.Core.Path.{_≡_, refl, sym, ap, ap₂, subst, _∙_}
 use mathlib.Core.List.{List, [], _∷_, _++_, map, append-nil, append-assoc}
-use borrow.Author.Tests.{leb-true, le-leb}
-use lib.Dec.{leb}
+use borrow.Author.Tests.{le-leb}
 use lib.ListN.{length, take, drop, getD, length-drop, length-map, take-append-drop, List·getD-append, List·getD-map}
 use lib.Seq.{take-add, take-all, ext-getD}
 use Rattle.terms.specs.declared.BucketRecord.{BucketRecord}
 use Rattle.terms.specs.Answer.{figures}
-use Rattle.terms.specs.AnswerLaws.{same-figures, weigh-figures}
 use Rattle.terms.specs.Limits.{costLimit}
 use Rattle.terms.specs.Lent.{recorded, roomOf}
 use Rattle.terms.specs.Records.{Cutting, Each, runLength, runRate, runDepth, total}
@@ -19,9 +17,9 @@ use Rattle.plan_file.specs.declared.plans.PlanFigures.{PlanFigures}
 use Rattle.encoding.specs.Number.{bytesOf, numberAt, bytesOfAll, itemsAt}
 use Rattle.encoding.specs.NumberLaws.{Within, Bytes, numbers-written, numbers-read, each-at, length-bytes, length-all, length-items, item-at, number-written, number-read, items-written, items-read}
 use Rattle.encoding.specs.HeaderLaws.{Placed}
-use Rattle.plan_file.specs.RecordLaws.{RecordsRange, noRecord, records-range, records-ok}
-use Rattle.plan_file.specs.Plan.{Recorded, costOffset, bucketsOffset, planLength, planWords, planBytes, recordBytes, recordOf, recordAt, recordsIn, countsOk, recordsOk, planIn, readPlan, listed, recordsOf, writePlan}
-use Rattle.plan_file.specs.PlanRules.{PlanRules, CountsRange, counts-range, counts-ok, bucketsIn, recordedIn, rules-read, read-rules, read-fits, write-figures, write-rules, length-head, length-record, length-plan, length-records}
+use Rattle.plan_file.specs.RecordLaws.{RecordsRange, noRecord, records-ok}
+use Rattle.plan_file.specs.Plan.{Recorded, costOffset, bucketsOffset, planLength, planWords, planBytes, recordBytes, recordOf, recordAt, recordsIn, planIn, readPlan, listed, recordsOf, writePlan}
+use Rattle.plan_file.specs.PlanRules.{PlanRules, CountsRange, counts-ok, bucketsIn, recordedIn, rules-read, read-rules, read-fits, write-figures, write-rules, length-head, length-record, length-plan, length-records}
 
 -- ---- One record
 

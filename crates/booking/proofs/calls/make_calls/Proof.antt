@@ -1,5 +1,5 @@
 -- The plan is recorded as planning left it; a refusal to plan ends the list.
-use mathlib.Core.Path.{_≡_, sym, ap, _∙_}
+use mathlib.Core.Path.{sym, ap}
 use Rattle.booking.specs.Booking.{Lent, lent, lists}
 use Rattle.booking.specs.CallLaws.{plannedSays, planning-refused, trace-count, trace-inside, plan-recorded}
 use borrow.Author.Needs.{needs}

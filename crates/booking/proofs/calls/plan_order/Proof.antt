@@ -2,14 +2,13 @@
 use Prim.Native.Nat.{ℕ}
 use mathlib.Core.Path.{_≡_, sym, ap, _∙_}
 use mathlib.Core.List.{List}
-use lib.ListN.{length, take}
+use lib.ListN.{length}
 use Rattle.terms.specs.Answer.{Answer, figures, onFigures}
 use Rattle.encoding.specs.Fill.{fillSays}
-use Rattle.series.specs.declared.plans.Plan.{Plan}
-use Rattle.series.specs.Series.{planOf, seriesFor, seriesSays}
+use Rattle.series.specs.Series.{seriesSays}
 use Rattle.order_file.specs.Order.{orderSays, readOrder, spreadOf}
 use Rattle.booking.specs.Booking.{RecordLists, lists}
-use Rattle.booking.specs.CallLaws.{PlansOrder, front-count, front-inside, order-refused, spread-refused, series-planned}
+use Rattle.booking.specs.CallLaws.{front-count, front-inside, order-refused, spread-refused, series-planned}
 use borrow.Author.Needs.{needs}
 use borrow.Author.Needs.{needs}
 use Rattle.booking.proofs.calls.plan_order.Statement.{statement}

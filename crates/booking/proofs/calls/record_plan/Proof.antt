@@ -1,11 +1,11 @@
 -- Each call is made with what those before it gave. What was written is read back, so reading refuses nothing, and the records read make up the trace.
 use Prim.Native.Nat.{ℕ}
 use mathlib.Core.Path.{_≡_, sym, ap, _∙_}
-use mathlib.Core.Bool.{Bool, true, _&&_}
+use mathlib.Core.Bool.{true}
 use mathlib.Core.List.{List}
 use borrow.Author.Tests.{not-true, not-false}
 use lib.Dec.{leb}
-use lib.ListN.{length, take}
+use lib.ListN.{length}
 use Rattle.terms.specs.Answer.{Answer, figures, onFigures}
 use Rattle.terms.specs.LentLaws.{room-each}
 use Rattle.encoding.specs.Fill.{fillSays}

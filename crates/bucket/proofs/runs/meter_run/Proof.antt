@@ -1,5 +1,5 @@
 -- A refusal to open is the answer; an opened meter is offered the demands.
-use mathlib.Core.Path.{_≡_, sym, ap, _∙_}
+use mathlib.Core.Path.{sym, ap, _∙_}
 use Rattle.terms.specs.AnswerLaws.{then-figures, then-refused}
 use Rattle.bucket.specs.Meter.{openSays}
 use borrow.Author.Needs.{needs}

@@ -9,7 +9,7 @@ use Rattle.terms.specs.Answer.{Answer, figures, refused, andThen}
 use Rattle.bucket.specs.declared.period.Period.{Period}
 use Rattle.bucket.specs.declared.meters.Meter.{Meter}
 use Rattle.bucket.specs.declared.meters.Offered.{Offered}
-use Rattle.bucket.specs.Meter.{offerOf, recordAfter, offersOf, offerSays, Answered}
+use Rattle.bucket.specs.Meter.{recordAfter, offersOf, offerSays, Answered}
 use borrow.Author.Needs.{needs}
 use Rattle.bucket.proofs.runs.offer_each.Statement.{statement}
 use Rattle.bucket.proofs.runs.offer_each.Tie as tie
