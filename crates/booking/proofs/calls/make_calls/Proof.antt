@@ -16,6 +16,9 @@ before s =
     let a = s .args in
     lent (a .demands .now) (lists (a .runs .now) (a .rates .now) (a .depths .now)) (a .bytes .now) (lists (a .back-runs .now) (a .back-rates .now) (a .back-depths .now))
 
+abbrev found-at : tie.After-struct-known → tie.After-x
+found-at c = c .before .before .before
+
 abbrev plan-at : tie.After-x → tie.After-plan-order
 plan-at c = c .before .before .before .before .before .before .before .before .before .before
 
@@ -50,34 +53,38 @@ cast-periods c = search needs
 
 slice-reshare-prefix-record-plan : tie.Need-slice-reshare-prefix-record-plan
 slice-reshare-prefix-record-plan c =
-    let x = c .before .before .before in
+    let x = found-at c in
     trace-inside _ (before (start-of (plan-at x))) _ _ _ (plan-at x .plan-order .ensures) _ (ap plannedSays (x .x .given .1))
 
 slice-aggregate-record-plan : tie.Need-slice-aggregate-record-plan
 slice-aggregate-record-plan c =
-    let x = c .before .before .before .before in
+    let x = found-at (c .before) in
     sym (trace-count _ (before (start-of (plan-at x))) _ _ _ (plan-at x .plan-order .ensures) _ (ap plannedSays (x .x .given .1)))
 
 record-plan-requires : tie.Need-record-plan-requires
 record-plan-requires c κs =
-    let x = c .before .before .before .before .before .before .before .before .before .before .before in
+    let x = found-at (c .before .before .before .before .before .before .before .before) in
     sym (trace-count _ (before (start-of (plan-at x))) _ _ _ (plan-at x .plan-order .ensures) _ (ap plannedSays (x .x .given .1)))
 
 same-length-5 : tie.Need-same-length-5
 same-length-5 c =
-    let x = c .before .before .before .before .before .before .before .before .before .before .before .before .before .before .before .before .before .before .before .before in
+    let x = found-at (c .before .before .before .before .before .before .before .before .before .before .before .before .before .before .before .before .before) in
     x .before .before .before .before .before .before .before .before .before .demands .given
 
 same-length-6 : tie.Need-same-length-6
 same-length-6 c =
-    let x = c .before .before .before .before .before .before .before .before .before .before .before .before .before .before .before .before .before .before .before .before in
+    let x = found-at (c .before .before .before .before .before .before .before .before .before .before .before .before .before .before .before .before .before) in
     x .before .before .before .before .before .before .before .runs .given
 
 same-length-7 : tie.Need-same-length-7
-same-length-7 c = search needs
+same-length-7 c =
+    let x = found-at (c .before .before .before .before .before .before .before .before .before .before .before .before .before .before .before .before .before) in
+    x .before .before .before .before .before .rates .given
 
 same-length-8 : tie.Need-same-length-8
-same-length-8 c = search needs
+same-length-8 c =
+    let x = found-at (c .before .before .before .before .before .before .before .before .before .before .before .before .before .before .before .before .before) in
+    x .before .before .before .depths .given
 
 same-length-9 : tie.Need-same-length-9
 same-length-9 c = search needs
@@ -94,7 +101,7 @@ same-length-12 c = search needs
 returns-2 : tie.Need-returns-2
 returns-2 c =
     let r = c .before .before .before .before .before .before .before .before in
-    let x = r .before .before .before .before .before .before .before .before .before .before .before .before in
+    let x = found-at (r .before .before .before .before .before .before .before .before .before) in
     plan-recorded _ (before (start-of (plan-at x))) _ _ _ (plan-at x .plan-order .ensures) _ (ap plannedSays (x .x .given .1)) _ _ _ (r .record-plan .ensures)
 
 pub make-calls-spec : {M : Type 1} → statement M

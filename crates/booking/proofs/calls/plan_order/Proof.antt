@@ -1,14 +1,16 @@
 -- Each call is made with what those before it gave, so each return is a case of the definition.
 use Prim.Native.Nat.{ℕ}
+use native.Mathlib.Omega.{arith}
 use mathlib.Core.Path.{_≡_, sym, ap, _∙_}
 use mathlib.Core.List.{List}
 use lib.ListN.{length}
+use lib.Seq.{length-take-le}
 use Rattle.terms.specs.Answer.{Answer, figures, onFigures}
 use Rattle.encoding.specs.Fill.{fillSays}
 use Rattle.series.specs.Series.{seriesSays}
 use Rattle.order_file.specs.Order.{orderSays, readOrder, spreadOf}
 use Rattle.booking.specs.Booking.{RecordLists, lists}
-use Rattle.booking.specs.CallLaws.{front-count, front-inside, order-refused, spread-refused, series-planned}
+use Rattle.booking.specs.CallLaws.{front-inside, order-refused, spread-refused, series-planned}
 use borrow.Author.Needs.{needs}
 use borrow.Author.Needs.{needs}
 use Rattle.booking.proofs.calls.plan_order.Statement.{statement}
@@ -73,13 +75,13 @@ returns-2 c =
 slice-reshare-prefix-series : tie.Need-slice-reshare-prefix-series
 slice-reshare-prefix-series c =
     let w = spread-at c in
-    front-inside (spreading w) (start-at (order-at w) .args .demands .now) _ _ (filled-so c) (w .spread .ensures .1)
+    omega (arith, front-inside (spreading w) (start-at (order-at w) .args .demands .now) _ _ (filled-so c) (w .spread .ensures .1))
 
 slice-aggregate-series : tie.Need-slice-aggregate-series
 slice-aggregate-series c =
     let t = c .before in
     let w = spread-at t in
-    sym (front-count (spreading w) (start-at (order-at w) .args .demands .now) _ _ (filled-so t) (w .spread .ensures .1))
+    sym (length-take-le _ _ (omega (arith, front-inside (spreading w) (start-at (order-at w) .args .demands .now) _ _ (filled-so t) (w .spread .ensures .1))))
 
 series-requires : tie.Need-series-requires
 series-requires c κs = search needs

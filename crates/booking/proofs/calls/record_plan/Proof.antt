@@ -1,18 +1,20 @@
 -- Each call is made with what those before it gave. What was written is read back, so reading refuses nothing, and the records read make up the trace.
 use Prim.Native.Nat.{ℕ}
+use native.Mathlib.Omega.{arith}
 use mathlib.Core.Path.{_≡_, sym, ap, _∙_}
 use mathlib.Core.Bool.{true}
 use mathlib.Core.List.{List}
 use borrow.Author.Tests.{not-true, not-false}
 use lib.Dec.{leb}
 use lib.ListN.{length}
+use lib.Seq.{length-take-le}
 use Rattle.terms.specs.Answer.{Answer, figures, onFigures}
 use Rattle.terms.specs.LentLaws.{room-each}
 use Rattle.encoding.specs.Fill.{fillSays}
 use Rattle.plan_file.specs.Plan.{planSays, writePlan}
 use Rattle.booking.specs.Booking.{RecordLists, lists, roomIn}
 use Rattle.booking.specs.MeteringLaws.{totalsSays}
-use Rattle.booking.specs.CallLaws.{front-count, front-inside, no-room, write-refused, read-taken, back-ready, plan-metered}
+use Rattle.booking.specs.CallLaws.{front-inside, no-room, write-refused, read-taken, back-ready, plan-metered}
 use borrow.Author.Needs.{needs}
 use borrow.Author.Needs.{needs}
 use Rattle.booking.proofs.calls.record_plan.Statement.{statement}
@@ -83,13 +85,13 @@ returns-2 c =
 slice-reshare-prefix-read-plan : tie.Need-slice-reshare-prefix-read-plan
 slice-reshare-prefix-read-plan c =
     let w = write-at c in
-    front-inside (writing w) (start-at (w .before .before) .args .bytes .now) _ _ (written-so c) (w .write-plan .ensures .1)
+    omega (arith, front-inside (writing w) (start-at (w .before .before) .args .bytes .now) _ _ (written-so c) (w .write-plan .ensures .1))
 
 slice-aggregate-read-plan : tie.Need-slice-aggregate-read-plan
 slice-aggregate-read-plan c =
     let n = c .before in
     let w = write-at n in
-    sym (front-count (writing w) (start-at (w .before .before) .args .bytes .now) _ _ (written-so n) (w .write-plan .ensures .1))
+    sym (length-take-le _ _ (omega (arith, front-inside (writing w) (start-at (w .before .before) .args .bytes .now) _ _ (written-so n) (w .write-plan .ensures .1))))
 
 read-plan-requires : tie.Need-read-plan-requires
 read-plan-requires c κs = search needs
