@@ -40,12 +40,14 @@ pub record Lent : Type 0 where
   -- and read back into these lists
   pub back : RecordLists
 
+-- The same two by their parts, for contracts.
 abbrev pub lists : List ℕ → List ℕ → List ℕ → RecordLists
 lists xs ys zs = record { runs = xs; rates = ys; depths = zs }
 
 abbrev pub lent : List ℕ → RecordLists → List ℕ → RecordLists → Lent
 lent ds l bs k = record { demands = ds; plan = l; bytes = bs; back = k }
 
+-- The entries of the shortest of three lists.
 abbrev pub roomIn : RecordLists → ℕ
 roomIn l = roomOf (l .runs) (l .rates) (l .depths)
 
@@ -61,11 +63,11 @@ pub record Planned : Type 0 where
   pub demands : List ℕ
   pub cutting : Cutting
 
--- The series is planned with the tariff read and the T numbers spread.
+-- The series is planned with the tariff read and the T numbers spread, with `room` entries to plan into.
 abbrev pub plannedRuns : Order → List ℕ → ℕ → Answer Planned
 plannedRuns o ds room = onFigures (λ xs. record { order = o; demands = ds; cutting = xs }) (seriesOf (o .tariff) room ds)
 
--- The order is read; its trace part is handed back and spread; the series is planned.
+-- The order is read; its trace part is handed back and spread, into `space` entries; the series is planned.
 abbrev pub planned : ℕ → ℕ → List ℕ → Answer Planned
 planned space room bs = andThen (readOrder bs) (λ o. andThen (spreadOf space (tracePart bs)) (λ ds. plannedRuns o ds room))
 
@@ -77,7 +79,8 @@ pub record Recording : Type 0 where
   pub plan : Recorded
   pub meters : List Meter
 
--- The plan is written. That its records can be read back is weighed first, so that a refusal comes before anything is written.
+-- The plan is written into `room` bytes, from the front of the lists. That its records can be read back into `space` entries is
+-- weighed first, so that a refusal comes before anything is written.
 abbrev pub written : ℕ → ℕ → PlanFigures → RecordLists → Answer (List ℕ)
 written space room x l = weigh (leb (x .buckets) space) 6 (writePlan room x (l .runs) (l .rates) (l .depths))
 
@@ -90,15 +93,18 @@ metersOf f ds (x ∷ xs) = andThen (meterRun (x .bucket) f (take (runLength x) d
 abbrev pub readBack : ℕ → Factor → List ℕ → List ℕ → Answer Recording
 readBack space f ds file = andThen (readPlan space file) (λ y. onFigures (λ ms. record { file = file; plan = y; meters = ms }) (metersOf f ds (y .buckets)))
 
+-- … all of these, one after the other.
 abbrev pub recording : ℕ → ℕ → PlanFigures → RecordLists → Factor → List ℕ → Answer Recording
 recording space room x l f ds = andThen (written space room x l) (λ file. readBack space f ds file)
 
 -- ---- The whole list of calls, on what is lent
 
+-- What all the calls give.
 pub record Steps : Type 0 where
   pub planning : Planned
   pub recording : Recording
 
+-- An order's bytes are planned on what is lent.
 abbrev pub plannedFor : Lent → List ℕ → Answer Planned
 plannedFor lent bs = planned (length (lent .demands)) (roomIn (lent .plan)) bs
 
@@ -131,6 +137,7 @@ bookingOf x =
       meters = totalsOf (x .meters);
     }
 
+-- … of the whole list of calls.
 abbrev pub answerOf : Steps → Booking
 answerOf s = bookingOf (s .recording)
 

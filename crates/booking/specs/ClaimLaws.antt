@@ -10,7 +10,7 @@ use lib.Dec.{leb}
 use lib.ListN.{length, take}
 use Rattle.terms.specs.declared.Tariff.{Tariff}
 use Rattle.terms.specs.Answer.{Answer, figures, refused, onFigures, andThen}
-use Rattle.terms.specs.AnswerLaws.{figures-refused, on-figures, on-refused, weigh-figures, then-figures, then-refused}
+use Rattle.terms.specs.AnswerLaws.{figures-refused, on-figures, on-refused, weigh-figures, then-figures, then-refused, then-found}
 use Rattle.terms.specs.LentLaws.{filled-front}
 use Rattle.terms.specs.RangeLaws.{PeriodsRange, periods-ok, tariff-ok}
 use Rattle.terms.specs.Records.{Cutting, Each}
@@ -39,9 +39,10 @@ carried-caps bs none = tt
 carried-caps bs (run f c) = (record { rate = f .fits .rates; depth = f .fits .depths }, carried-caps bs c)
 
 -- What reading into lists gives is what the file holds.
-fits-file : (room : ℕ) (a : Answer Recorded) (y : Recorded) → fitting room a ≡ figures y → a ≡ figures y
-fits-file room (figures x) y e = let f = weigh-figures (leb (length (x .buckets)) room) 6 (figures x) e in f .1
-fits-file room (refused n) y e = absurd (figures-refused (sym e))
+fits-file : (room : ℕ) (a : Answer Recorded) (y : Recorded) → andThen a (fitting room) ≡ figures y → a ≡ figures y
+fits-file room a y e =
+    let f = then-found a (fitting room) e in
+    f .1 ∙ weigh-figures (leb (length (f .0 .buckets)) room) 6 (figures (f .0)) (f .2) .1
 
 -- ---- The two outcomes
 

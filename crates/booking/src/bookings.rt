@@ -24,7 +24,12 @@ pub fn book(
     back_rates: &mut [u32],
     back_depths: &mut [u32],
 ) -> BookingAnswer
-    ensures { λ r. ⌜ Claim (now (order .entry)) (lent (now (demands .entry)) (lists (now (runs .entry)) (now (rates .entry)) (now (depths .entry))) (now (bytes .entry)) (lists (now («back_runs» .entry)) (now («back_rates» .entry)) (now («back_depths» .entry)))) (lent (now (demands .exit)) (lists (now (runs .exit)) (now (rates .exit)) (now (depths .exit))) (now (bytes .exit)) (lists (now («back_runs» .exit)) (now («back_rates» .exit)) (now («back_depths» .exit)))) (bookingSays r) ⌝ }
+    ensures { λ r. ⌜ Claim (now (order .entry))
+        (lent (now (demands .entry)) (lists (now (runs .entry)) (now (rates .entry)) (now (depths .entry)))
+        (now (bytes .entry)) (lists (now («back_runs» .entry)) (now («back_rates» .entry)) (now («back_depths» .entry))))
+        (lent (now (demands .exit)) (lists (now (runs .exit)) (now (rates .exit)) (now (depths .exit)))
+        (now (bytes .exit)) (lists (now («back_runs» .exit)) (now («back_rates» .exit)) (now («back_depths» .exit))))
+        (bookingSays r) ⌝ }
 {
     let demands_before = keep_demands(demands);
     let runs_before = keep(runs);

@@ -56,7 +56,10 @@ fn plan_order(
     rates: &mut [u32],
     depths: &mut [u32],
 ) -> PlannedAnswer
-    ensures { λ r. ⌜ PlansOrder (now (order .entry)) (now (demands .entry)) (lists (now (runs .entry)) (now (rates .entry)) (now (depths .entry))) (now (demands .exit)) (lists (now (runs .exit)) (now (rates .exit)) (now (depths .exit))) (plannedSays r) ⌝ }
+    ensures { λ r. ⌜ PlansOrder (now (order .entry))
+        (now (demands .entry)) (lists (now (runs .entry)) (now (rates .entry)) (now (depths .entry)))
+        (now (demands .exit)) (lists (now (runs .exit)) (now (rates .exit)) (now (depths .exit)))
+        (plannedSays r) ⌝ }
 {
     let found = match read_order(order) {
         OrderAnswer::Read(x) => x,
@@ -88,7 +91,10 @@ fn record_plan(
     back_depths: &mut [u32],
 ) -> BookingAnswer
     requires { ⌜ plan .periods ≡ length (now trace) ⌝ }
-    ensures { λ r. ⌜ RecordsPlan plan factor (now (trace .entry)) (lists (now (runs .entry)) (now (rates .entry)) (now (depths .entry))) (now (bytes .entry)) (lists (now («back_runs» .entry)) (now («back_rates» .entry)) (now («back_depths» .entry))) (now (bytes .exit)) (lists (now («back_runs» .exit)) (now («back_rates» .exit)) (now («back_depths» .exit))) (bookingSays r) ⌝ }
+    ensures { λ r. ⌜ RecordsPlan plan factor (now (trace .entry)) (lists (now (runs .entry)) (now (rates .entry)) (now (depths .entry)))
+        (now (bytes .entry)) (lists (now («back_runs» .entry)) (now («back_rates» .entry)) (now («back_depths» .entry)))
+        (now (bytes .exit)) (lists (now («back_runs» .exit)) (now («back_rates» .exit)) (now («back_depths» .exit)))
+        (bookingSays r) ⌝ }
 {
     let buckets = plan.buckets as usize;
     let room = (buckets <= back_runs.len())
@@ -128,7 +134,12 @@ pub fn make_calls(
     back_rates: &mut [u32],
     back_depths: &mut [u32],
 ) -> BookingAnswer
-    ensures { λ r. ⌜ Called (now (order .entry)) (lent (now (demands .entry)) (lists (now (runs .entry)) (now (rates .entry)) (now (depths .entry))) (now (bytes .entry)) (lists (now («back_runs» .entry)) (now («back_rates» .entry)) (now («back_depths» .entry)))) (lent (now (demands .exit)) (lists (now (runs .exit)) (now (rates .exit)) (now (depths .exit))) (now (bytes .exit)) (lists (now («back_runs» .exit)) (now («back_rates» .exit)) (now («back_depths» .exit)))) (bookingSays r) ⌝ }
+    ensures { λ r. ⌜ Called (now (order .entry))
+        (lent (now (demands .entry)) (lists (now (runs .entry)) (now (rates .entry)) (now (depths .entry)))
+        (now (bytes .entry)) (lists (now («back_runs» .entry)) (now («back_rates» .entry)) (now («back_depths» .entry))))
+        (lent (now (demands .exit)) (lists (now (runs .exit)) (now (rates .exit)) (now (depths .exit)))
+        (now (bytes .exit)) (lists (now («back_runs» .exit)) (now («back_rates» .exit)) (now («back_depths» .exit))))
+        (bookingSays r) ⌝ }
 {
     let found = match plan_order(order, demands, runs, rates, depths) {
         PlannedAnswer::Found(x) => x,

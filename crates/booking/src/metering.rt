@@ -65,7 +65,8 @@ pub fn meter_runs(
     requires { ⌜ buckets ≤ roomOf (now runs) (now rates) (now depths) ⌝ }
     requires { ⌜ CountsRange (length (now trace)) buckets ⌝ }
     requires { ⌜ total runLength (recordsOf buckets (now runs) (now rates) (now depths)) ≡ length (now trace) ⌝ }
-    ensures { λ r. ⌜ totalsSays r ≡ onFigures totalsOf (metersOf factor (now (trace .entry)) (recordsOf buckets (now (runs .entry)) (now (rates .entry)) (now (depths .entry)))) ⌝ }
+    ensures { λ r. ⌜ totalsSays r
+        ≡ onFigures totalsOf (metersOf factor (now (trace .entry)) (recordsOf buckets (now (runs .entry)) (now (rates .entry)) (now (depths .entry)))) ⌝ }
 {
     let mut totals = MeterTotals {
         sent: 0,

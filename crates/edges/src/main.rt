@@ -1,6 +1,7 @@
 // Prints what the calls answer at the edges of document 01's ranges, an edge to a line, and on
 // every small case.
 mod meters;
+mod runs;
 mod small;
 mod tariffs;
 mod trials;
@@ -13,6 +14,7 @@ fn main() {
     tariffs::edges();
     trials::edges();
     meters::edges();
+    runs::edges();
     small::cases();
 }
 

@@ -26,7 +26,11 @@ fn opening(edge: &[u8], rate: u32, depth: u32, p: u32, q: u32) {
     report::words(b"open ");
     report::words(edge);
     report::words(b":");
-    let a = bucket::open_meter(bucket_of(rate, depth), Factor { p, q });
+    answer(bucket::open_meter(bucket_of(rate, depth), Factor { p, q }));
+}
+
+// A meter's record, or the refusal, to the end of the line.
+pub fn answer(a: MeterAnswer) {
     match a {
         MeterAnswer::Opened(m) => figures(m),
         MeterAnswer::Refused(x) => report::refusal(x),

@@ -6,7 +6,7 @@ use mathlib.Core.List.{List, [], _∷_, _++_}
 use lib.Dec.{leb, eqb}
 use lib.ListN.{length, getD}
 use Rattle.terms.specs.declared.BucketRecord.{BucketRecord}
-use Rattle.terms.specs.Answer.{Answer, figures, refused, weigh, onFigures}
+use Rattle.terms.specs.Answer.{Answer, figures, refused, weigh, onFigures, andThen}
 use Rattle.terms.specs.Refusals.{numberOf}
 use Rattle.terms.specs.Limits.{costLimit}
 use Rattle.terms.specs.Ranges.{periodsOk, recordOk}
@@ -96,13 +96,12 @@ planIn bs =
     (figures (record { periods = T; cost = cost; buckets = recordsIn k bs })))))))
 
 -- 6, once the file itself is weighed: lists with less room than buckets.
-abbrev pub fitting : ℕ → Answer Recorded → Answer Recorded
-fitting room (figures x) = weigh (leb (length (x .buckets)) room) 6 (figures x)
-fitting room (refused n) = refused n
+abbrev pub fitting : ℕ → Recorded → Answer Recorded
+fitting room x = weigh (leb (length (x .buckets)) room) 6 (figures x)
 
 -- What reading gives with room for so many records.
 abbrev pub readPlan : ℕ → List ℕ → Answer Recorded
-readPlan room bs = fitting room (planIn bs)
+readPlan room bs = andThen (planIn bs) (fitting room)
 
 -- What reading into three lent lists gives.
 abbrev pub readInto : List ℕ → List ℕ → List ℕ → List ℕ → Answer Recorded

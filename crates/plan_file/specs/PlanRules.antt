@@ -11,7 +11,7 @@ use lib.ListN.{length, length-map, length-append}
 use lib.Seq.{sets}
 use Rattle.terms.specs.declared.BucketRecord.{BucketRecord}
 use Rattle.terms.specs.Answer.{Answer, figures, refused, weigh}
-use Rattle.terms.specs.AnswerLaws.{same-figures, weigh-figures, on-figures}
+use Rattle.terms.specs.AnswerLaws.{same-figures, weigh-figures, on-figures, then-figures, then-refused}
 use Rattle.terms.specs.Bools.{and-three, both-and}
 use Rattle.terms.specs.Limits.{costLimit}
 use Rattle.terms.specs.Lent.{recorded, roomOf}
@@ -153,7 +153,7 @@ is-plan bs y e =
 
 -- A plan that is read fits lists that have room for its records.
 pub read-fits : (room : ℕ) (bs : List ℕ) (x : Recorded) → planIn bs ≡ figures x → length (x .buckets) ≤ room → readPlan room bs ≡ figures x
-read-fits room bs x e l = ap (fitting room) e ∙ ap (λ (ok : Bool). weigh ok 6 (figures x)) (le-leb _ _ l)
+read-fits room bs x e l = sym (then-figures (planIn bs) (fitting room) e) ∙ ap (λ (ok : Bool). weigh ok 6 (figures x)) (le-leb _ _ l)
 
 module _ (bs runs rates depths : List ℕ) where
   abbrev room : ℕ
@@ -165,7 +165,7 @@ module _ (bs runs rates depths : List ℕ) where
 
   pub read-refused : (r : Answer PlanFigures) (n : ℕ) → r ≡ figuresOf (planIn bs) → planIn bs ≡ refused n → Result r runs rates depths
   read-refused r n e f =
-      let g : readPlan room bs ≡ refused n = ap (fitting room) f in
+      let g : readPlan room bs ≡ refused n = sym (then-refused (planIn bs) (fitting room) f) in
       (e ∙ ap figuresOf (f ∙ sym g), lists-kept runs rates depths _ n (ap bucketsOf g))
 
   module _ (y : PlanFigures) (p : IsPlan bs y) where
@@ -175,7 +175,7 @@ module _ (bs runs rates depths : List ℕ) where
     pub read-full : leb (y .buckets) room ≡ false → Result (refused 6) runs rates depths
     read-full h =
         let k : leb (length (bucketsIn bs)) room ≡ false = ap (λ (n : ℕ). leb n room) count ∙ h in
-        let g : readPlan room bs ≡ refused 6 = ap (fitting room) (p .is-read) ∙ ap (λ (ok : Bool). weigh ok 6 (figures (recordedIn bs))) k in
+        let g : readPlan room bs ≡ refused 6 = sym (then-figures (planIn bs) (fitting room) (p .is-read)) ∙ ap (λ (ok : Bool). weigh ok 6 (figures (recordedIn bs))) k in
         (sym (ap figuresOf g), lists-kept runs rates depths _ 6 (ap bucketsOf g))
 
     module _ (h : leb (y .buckets) room ≡ true) where
