@@ -6,13 +6,12 @@ use native.Mathlib.Omega.{arith}
 use native.Mathlib.Nat.{le-trans, pow-suc}
 use mathlib.Core.Path.{_≡_, refl, sym, ap, ap₂, subst, _∙_}
 use mathlib.Core.List.{List, [], _∷_}
-use lib.Dec.{leb}
 use lib.ListN.{length, take, drop, getD, length-take, length-drop}
 use lib.Seq.{drop-drop}
 use Rattle.terms.specs.declared.BucketRecord.{BucketRecord}
 use Rattle.terms.specs.declared.Tariff.{Tariff}
 use Rattle.terms.specs.Answer.{figures}
-use Rattle.terms.specs.AnswerLaws.{same-figures, weigh-figures, on-figures, then-found}
+use Rattle.terms.specs.AnswerLaws.{on-figures, then-found}
 use Rattle.terms.specs.Limits.{demandLimit, traceLimit, costLimit}
 use Rattle.terms.specs.RangeLaws.{TariffRange, PeriodsRange, RecordRange, FreshRange}
 use Rattle.terms.specs.Records.{Cutting, Each, runLength, total}
@@ -29,12 +28,12 @@ use Rattle.series.specs.SeriesLaws.{Cheapest, series-cheapest}
 use Rattle.encoding.specs.Number.{valueOf, numberAt, itemsAt}
 use Rattle.encoding.specs.NumberLaws.{Bytes, fit-head, fit-tail, fit-drop}
 use Rattle.order_file.specs.declared.orders.Order.{Order}
-use Rattle.order_file.specs.Order.{traceOffset, tariffIn, readOrder, tracePart, demandsIn, partOk, spreadOf}
+use Rattle.order_file.specs.Order.{traceOffset, tariffIn, readOrder, tracePart, demandsIn, spreadOf}
 use Rattle.order_file.specs.OrderLaws.{demands-count}
-use Rattle.order_file.specs.OrderRules.{orderIn, read-rules, part-read, length-demands}
+use Rattle.order_file.specs.OrderRules.{orderIn, read-rules, part-read, length-demands, spread-rules}
 use Rattle.plan_file.specs.PlanRules.{CountsRange}
 use Rattle.plan_file.specs.RecordLaws.{RecordsRange, noRecord}
-use Rattle.booking.specs.Booking.{Planned, planned, metersOf}
+use Rattle.booking.specs.Booking.{Lent, Planned, plannedFor, roomIn, metersOf}
 use Rattle.booking.specs.Claim.{periodsIn, demandsAt, SeriesAnswer}
 
 -- ---- The demands in the file
@@ -83,25 +82,22 @@ module _ (bs : List ℕ) (o : Order) (e : readOrder bs ≡ figures o) where
 -- ---- The order read, spread and planned
 
 -- The calls up to planning gave x.
-pub record IsPlanned (space room : ℕ) (bs : List ℕ) (x : Planned) : Type 0 where
+pub record IsPlanned (old : Lent) (bs : List ℕ) (x : Planned) : Type 0 where
   pub read : readOrder bs ≡ figures (x .order)
-  pub spread : spreadOf space (tracePart bs) ≡ figures (x .demands)
-  pub series : seriesOf (x .order .tariff) room (x .demands) ≡ figures (x .cutting)
+  pub spread : spreadOf (length (old .demands)) (tracePart bs) ≡ figures (x .demands)
+  pub series : seriesOf (x .order .tariff) (roomIn (old .plan)) (x .demands) ≡ figures (x .cutting)
 
-module _ (space room : ℕ) (bs : List ℕ) where
-  pub is-planned : (x : Planned) → planned space room bs ≡ figures x → IsPlanned space room bs x
+module _ (old : Lent) (bs : List ℕ) where
+  pub is-planned : (x : Planned) → plannedFor old bs ≡ figures x → IsPlanned old bs x
   is-planned x e =
       let a = then-found (readOrder bs) _ e in
-      let b = then-found (spreadOf space (tracePart bs)) _ (a .2) in
-      let c = on-figures _ (seriesOf (a .0 .tariff) room (b .0)) (b .2) in
-      subst (IsPlanned space room bs) (c .2) (record { read = a .1; spread = b .1; series = c .1 })
+      let b = then-found (spreadOf (length (old .demands)) (tracePart bs)) _ (a .2) in
+      let c = on-figures _ (seriesOf (a .0 .tariff) (roomIn (old .plan)) (b .0)) (b .2) in
+      subst (IsPlanned old bs) (c .2) (record { read = a .1; spread = b .1; series = c .1 })
 
-  module _ (x : Planned) (p : IsPlanned space room bs x) where
+  module _ (x : Planned) (p : IsPlanned old bs x) where
     spread-demands : demandsIn (tracePart bs) ≡ x .demands
-    unfolding spreadOf
-    spread-demands =
-        let a = weigh-figures (partOk (length (tracePart bs))) 3 _ (p .spread) in
-        same-figures (weigh-figures (leb (length (tracePart bs) / 2) space) 6 _ (a .1) .1)
+    spread-demands = spread-rules (length (old .demands)) (tracePart bs) (x .demands) (p .spread) .0
 
     -- the demands are as many as the order's T
     pub planned-count : length (x .demands) ≡ x .order .periods
@@ -123,7 +119,7 @@ module _ (space room : ℕ) (bs : List ℕ) where
 
     -- the cutting is the series answer for them
     pub planned-cheapest : Cheapest (x .order .tariff) (x .demands) (x .cutting)
-    planned-cheapest = series-cheapest (x .order .tariff) (x .demands) room (x .cutting) (p .series)
+    planned-cheapest = series-cheapest (x .order .tariff) (x .demands) (roomIn (old .plan)) (x .cutting) (p .series)
 
     pub planned-series : SeriesAnswer bs (x .cutting)
     planned-series =
@@ -142,6 +138,16 @@ module _ (t : Tariff) where
   carried-some none l = l
   carried-some (run f c) l = omega arith
 
+  -- The rules of a plan of T periods.
+  pub record PlanRange (T : ℕ) (xs : Cutting) : Type 0 where
+    pub counts : CountsRange T (length xs)
+    pub cost : trueCost t xs ≤ costLimit
+    pub records : RecordsRange T xs
+
+  -- Meters that refuse nothing and discard nothing.
+  abbrev pub NothingOver : List ℕ → Cutting → Type 0
+  NothingOver ds xs = (ms : List Meter) × (metersOf (t .factor) ds xs ≡ figures ms) × Each (λ m. m .over ≡ 0) ms
+
   module _ (h : TariffRange t) where
     served-range : {ds : List ℕ} {x : BucketRecord} → FirstRun runLength (ServesRun t) ds x → RecordRange x
     served-range f =
@@ -153,11 +159,6 @@ module _ (t : Tariff) where
     carried-each (run f c) (suc i) l = carried-each c i (omega arith)
 
     -- Its figures keep the rules of a plan.
-    pub record PlanRange (T : ℕ) (xs : Cutting) : Type 0 where
-      pub counts : CountsRange T (length xs)
-      pub cost : trueCost t xs ≤ costLimit
-      pub records : RecordsRange T xs
-
     pub carried-plan : {ds : List ℕ} {xs : Cutting} → PeriodsRange (length ds) → Carried t ds xs → PlanRange (length ds) xs
     carried-plan {ds} {xs} p c =
         record {
@@ -167,10 +168,7 @@ module _ (t : Tariff) where
         }
 
     -- Its meters, run by run, refuse nothing and discard nothing.
-    abbrev pub Discarding : List ℕ → Cutting → Type 0
-    Discarding ds xs = (ms : List Meter) × (metersOf (t .factor) ds xs ≡ figures ms) × Each (λ m. m .over ≡ 0) ms
-
-    pub carried-meters : {ds : List ℕ} {xs : Cutting} → Demands ds → length ds ≤ traceLimit → Carried t ds xs → Discarding ds xs
+    pub carried-meters : {ds : List ℕ} {xs : Cutting} → Demands ds → length ds ≤ traceLimit → Carried t ds xs → NothingOver ds xs
     unfolding metersOf
     carried-meters d l none = ([], refl, tt)
     carried-meters d l (run {ds} {x} {xs} f c) =

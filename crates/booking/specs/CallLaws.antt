@@ -325,13 +325,13 @@ module _ (bs : List ℕ) (old : Lent) (demands′ : List ℕ) (plan′ : RecordL
     abbrev x : Planned
     x = found-plan .0
 
-    is : IsPlanned (length (old .demands)) (roomIn (old .plan)) bs x
-    is = is-planned (length (old .demands)) (roomIn (old .plan)) bs x (found-plan .1)
+    is : IsPlanned old bs x
+    is = is-planned old bs x (found-plan .1)
 
     periods-is : y .order .periods ≡ length (x .demands)
     periods-is =
         ap (λ (z : PlannedOrder). z .order .periods) (sym (found-plan .2))
-        ∙ sym (planned-count (length (old .demands)) (roomIn (old .plan)) bs x is)
+        ∙ sym (planned-count old bs x is)
 
     -- the T numbers spread
     trace-is : take (y .order .periods) demands′ ≡ x .demands

@@ -106,11 +106,11 @@ module _ (bs : List ℕ) (h : Bytes bs) (old after : Lent) (answer : Answer Book
       planned-is : plannedFor old bs ≡ figures x
       planned-is = planned-so ∙ ap (onFigures (λ ys. record { order = orderIn bs; demands = ds; cutting = ys })) s
 
-      is : IsPlanned (length (old .demands)) (roomIn (old .plan)) bs x
-      is = is-planned (length (old .demands)) (roomIn (old .plan)) bs x planned-is
+      is : IsPlanned old bs x
+      is = is-planned old bs x planned-is
 
       is-answer : SeriesAnswer bs xs
-      is-answer = planned-series (length (old .demands)) (roomIn (old .plan)) bs x is
+      is-answer = planned-series old bs x is
 
       abbrev file : List ℕ
       file = fileOf old x

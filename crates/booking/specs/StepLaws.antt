@@ -1,6 +1,6 @@
 -- The list of calls step by step: once a plan is written no later call refuses, and what is left in what was lent.
 -- Assumes nothing.
-use Prim.Native.Nat.{ℕ, _/_, min, _≤_}
+use Prim.Native.Nat.{ℕ, min, _≤_}
 use native.Mathlib.Omega.{arith}
 use native.Mathlib.Nat.{le-refl}
 use mathlib.Core.Path.{_≡_, refl, sym, ap, subst, _∙_}
@@ -12,28 +12,28 @@ use lib.ListN.{length, length-map}
 use Rattle.terms.specs.declared.BucketRecord.{BucketRecord}
 use Rattle.terms.specs.declared.Tariff.{Tariff}
 use Rattle.terms.specs.Answer.{Answer, figures, refused, weigh, onFigures, andThen}
-use Rattle.terms.specs.AnswerLaws.{figures-refused, same-figures, weigh-figures, on-figures, then-figures, then-refused, then-found}
+use Rattle.terms.specs.AnswerLaws.{figures-refused, weigh-figures, on-figures, then-figures, then-refused, then-found}
 use Rattle.terms.specs.Limits.{traceLimit}
 use Rattle.terms.specs.Lent.{filled, recorded}
 use Rattle.terms.specs.LentLaws.{rooms}
 use Rattle.terms.specs.Records.{Cutting, runLength, runRate, runDepth}
 use Rattle.bucket.specs.Trace.{Demands}
-use Rattle.series.specs.Series.{Carried, trueCost}
+use Rattle.series.specs.Series.{trueCost}
 use Rattle.series.specs.OutlineLaws.{carried-count}
 use Rattle.series.specs.SeriesLaws.{series-room}
 use Rattle.encoding.specs.NumberLaws.{Bytes}
 use Rattle.encoding.specs.Number.{numberAt}
 use Rattle.order_file.specs.declared.orders.Order.{Order}
-use Rattle.order_file.specs.Order.{readOrder, tracePart, partOk, spreadOf}
+use Rattle.order_file.specs.Order.{readOrder, tracePart, spreadOf}
 use Rattle.order_file.specs.OrderLaws.{demands-count}
-use Rattle.order_file.specs.OrderRules.{read-rules, length-demands}
+use Rattle.order_file.specs.OrderRules.{read-rules, spread-rules}
 use Rattle.plan_file.specs.Plan.{Recorded, countsOk, planLength, planBytes, readPlan, writePlan, bucketsOf, recordsOf}
 use Rattle.plan_file.specs.PlanLaws.{write-read, lists-hold}
 use Rattle.plan_file.specs.PlanRules.{counts-ok, write-figures}
 use Rattle.plan_file.specs.RecordLaws.{RecordsRange, records-ok}
 use Rattle.booking.specs.declared.calls.Booking.{Booking}
 use Rattle.booking.specs.Booking.{RecordLists, Lent, Planned, Recording, Steps, lent, lists, roomIn, withRecords, plannedFor, planFigures, readBack, metersOf, recordingFor, booked, lentAfter}
-use Rattle.booking.specs.BookingLaws.{IsPlanned, is-planned, PlanRange, Discarding, carried-plan, carried-meters, file-demands, planned-count, planned-cheapest, planned-demands, planned-range}
+use Rattle.booking.specs.BookingLaws.{IsPlanned, is-planned, PlanRange, NothingOver, carried-plan, carried-meters, file-demands, planned-count, planned-cheapest, planned-demands, planned-range}
 use Rattle.booking.specs.CallLaws.{Called, cuttingOf, spreadFrom, writtenFor, readFor, room-kept}
 use Rattle.booking.specs.FrontLaws.{Front, FrontOnly, frontLength, filled-front-only, put-back, restored}
 
@@ -43,10 +43,7 @@ fileOf old x =
     let l = withRecords (figures (x .cutting)) (old .plan) in
     planBytes (x .order .periods) (trueCost (x .order .tariff) (x .cutting)) (recordsOf (length (x .cutting)) (l .runs) (l .rates) (l .depths))
 
-pub planned-carried : (bs : List ℕ) (old : Lent) (x : Planned) → IsPlanned (length (old .demands)) (roomIn (old .plan)) bs x → Carried (x .order .tariff) (x .demands) (x .cutting)
-planned-carried bs old x is = planned-cheapest (length (old .demands)) (roomIn (old .plan)) bs x is .carried
-
-module _ (bs : List ℕ) (h : Bytes bs) (old : Lent) (x : Planned) (is : IsPlanned (length (old .demands)) (roomIn (old .plan)) bs x) where
+module _ (bs : List ℕ) (h : Bytes bs) (old : Lent) (x : Planned) (is : IsPlanned old bs x) where
   abbrev t : Tariff
   t = x .order .tariff
 
@@ -58,19 +55,19 @@ module _ (bs : List ℕ) (h : Bytes bs) (old : Lent) (x : Planned) (is : IsPlann
   l = withRecords (figures cutting) (old .plan)
 
   count : length (x .demands) ≡ x .order .periods
-  count = planned-count (length (old .demands)) (roomIn (old .plan)) bs x is
+  count = planned-count old bs x is
 
-  ranges : PlanRange t (planned-range (length (old .demands)) (roomIn (old .plan)) bs x is .1) (length (x .demands)) cutting
+  ranges : PlanRange t (length (x .demands)) cutting
   ranges =
-      let r = planned-range (length (old .demands)) (roomIn (old .plan)) bs x is in
-      carried-plan t (r .1) (r .0) (planned-carried bs old x is)
+      let r = planned-range old bs x is in
+      carried-plan t (r .1) (r .0) (planned-cheapest old bs x is .carried)
 
   -- each run's meter takes its offers and discards nothing
-  pub planned-meters : Discarding t (planned-range (length (old .demands)) (roomIn (old .plan)) bs x is .1) (x .demands) cutting
+  pub planned-meters : NothingOver t (x .demands) cutting
   planned-meters =
-      let r = planned-range (length (old .demands)) (roomIn (old .plan)) bs x is in
-      let d = subst Demands (sym (planned-demands (length (old .demands)) (roomIn (old .plan)) bs x is)) (file-demands bs h) in
-      carried-meters t (r .1) d (r .0 .few) (planned-carried bs old x is)
+      let r = planned-range old bs x is in
+      let d = subst Demands (sym (planned-demands old bs x is)) (file-demands bs h) in
+      carried-meters t (r .1) d (r .0 .few) (planned-cheapest old bs x is .carried)
 
   held : recordsOf (length cutting) (l .runs) (l .rates) (l .depths) ≡ cutting
   held = lists-hold cutting (old .plan .runs) (old .plan .rates) (old .plan .depths)
@@ -117,7 +114,7 @@ module _ (bs : List ℕ) (h : Bytes bs) (old : Lent) (x : Planned) (is : IsPlann
 
 module _ (bs : List ℕ) (h : Bytes bs) (old : Lent) where
   -- Where a plan is found and written the list ends with figures.
-  pub steps-figures : (x : Planned) (is : IsPlanned (length (old .demands)) (roomIn (old .plan)) bs x) → plannedFor old bs ≡ figures x
+  pub steps-figures : (x : Planned) (is : IsPlanned old bs x) → plannedFor old bs ≡ figures x
       → (file : List ℕ) → writtenFor old x ≡ figures file → booked old bs ≡ figures (record { planning = x; recording = recordingOf bs h old x is file })
   steps-figures x is e file w =
       sym (then-figures (plannedFor old bs) (λ x. onFigures (λ y. record { planning = x; recording = y }) (recordingFor old x)) e)
@@ -138,7 +135,7 @@ module _ (bs : List ℕ) (h : Bytes bs) (old : Lent) where
         where
           writing : (b : Answer (List ℕ)) → writtenFor old x ≡ b → NotWritten
           writing (figures file) w =
-              let is = is-planned (length (old .demands)) (roomIn (old .plan)) bs x e in
+              let is = is-planned old bs x e in
               absurd (figures-refused (sym (steps-figures x is e file w) ∙ r))
           writing (refused m) w =
               record {
@@ -171,21 +168,17 @@ steps-found bs old s e =
 
 -- No more than 512 demands are spread, nor more records planned.
 spread-short : (bs : List ℕ) (o : Order) → readOrder bs ≡ figures o → (space : ℕ) (ds : List ℕ) → spreadOf space (tracePart bs) ≡ figures ds → length ds ≤ min space traceLimit
-unfolding spreadOf
 spread-short bs o e space ds f =
-    let part = tracePart bs in
-    let a = weigh-figures (partOk (length part)) 3 _ f in
-    let b = weigh-figures (leb (length part / 2) space) 6 _ (a .1) in
-    let n : length ds ≡ length part / 2 = ap length (sym (same-figures (b .1))) ∙ length-demands part in
+    let s = spread-rules space (tracePart bs) ds f in
     let r = read-rules bs o e in
-    let T : length part / 2 ≡ numberAt 4 bs 4 = sym (length-demands part) ∙ demands-count bs o e ∙ ap (λ (x : Order). x .periods) (r .1) in
-    omega (arith, n, T, leb-true (length part / 2) space (b .0), r .0 .periods .few)
+    let T : length ds ≡ numberAt 4 bs 4 = ap length (sym (s .0)) ∙ demands-count bs o e ∙ ap (λ (x : Order). x .periods) (r .1) in
+    omega (arith, T, s .1, r .0 .periods .few)
 
 planned-short : (bs : List ℕ) (old : Lent) (x : Planned) → plannedFor old bs ≡ figures x → (length (x .cutting) ≤ roomIn (old .plan)) × (length (x .cutting) ≤ traceLimit)
 planned-short bs old x e =
-    let is = is-planned (length (old .demands)) (roomIn (old .plan)) bs x e in
-    let n = carried-count (x .order .tariff) (planned-carried bs old x is) in
-    let p = planned-range (length (old .demands)) (roomIn (old .plan)) bs x is .0 in
+    let is = is-planned old bs x e in
+    let n = carried-count (x .order .tariff) (planned-cheapest old bs x is .carried) in
+    let p = planned-range old bs x is .0 in
     (omega (arith, n, series-room (x .order .tariff) (x .demands) (roomIn (old .plan)) (x .cutting) (is .series)), omega (arith, n, p .few))
 
 lent-by : {a a′ : List ℕ} {b b′ : RecordLists} {c c′ : List ℕ} {d d′ : RecordLists} → a ≡ a′ → b ≡ b′ → c ≡ c′ → d ≡ d′ → lent a b c d ≡ lent a′ b′ c′ d′
@@ -196,7 +189,7 @@ module _ (bs : List ℕ) (old : Lent) (demands : List ℕ) (plan : RecordLists) 
   pub figures-left : (s : Steps) → booked old bs ≡ figures s → lent demands plan bytes back ≡ lentAfter (booked old bs) old
   figures-left s e =
       let f = steps-found bs old s e in
-      let p = is-planned (length (old .demands)) (roomIn (old .plan)) bs (s .planning) (f .is-plan) in
+      let p = is-planned old bs (s .planning) (f .is-plan) in
       let read = sym (then-figures (plannedFor old bs) (readFor old) (f .is-plan)) ∙ sym (then-figures (writtenFor old (s .planning)) _ (f .is-written)) ∙ ap bucketsOf (f .is-read) in
       lent-by
       (c .spreads ∙ ap (λ (a : Answer (List ℕ)). filled a (old .demands)) (sym (then-figures _ _ (p .read)) ∙ p .spread))

@@ -1,6 +1,7 @@
 -- The order file rule by rule: which refusal each broken rule gives, and that an order that breaks none is read.
 -- Assumes nothing.
 use Prim.Native.Nat.{ℕ, _+_, _/_, _≤_}
+use native.Mathlib.Omega.{arith}
 use mathlib.Core.Path.{_≡_, refl, sym, ap, ap₂, _∙_}
 use mathlib.Core.Bool.{Bool, true, false}
 use mathlib.Core.List.{List, []}
@@ -116,6 +117,15 @@ module _ (room : ℕ) (part : List ℕ) where
 
 pub length-demands : (part : List ℕ) → length (demandsIn part) ≡ length part / 2
 length-demands part = length-items (numberAt 2 part) 2 (length part / 2) 0
+
+-- What is known of a part that is spread.
+pub spread-rules : (room : ℕ) (part ds : List ℕ) → spreadOf room part ≡ figures ds → (demandsIn part ≡ ds) × (length ds ≤ room)
+unfolding spreadOf
+spread-rules room part ds e =
+    let a = weigh-figures (partOk (length part)) 3 _ e in
+    let b = weigh-figures (leb (length part / 2) room) 6 _ (a .1) in
+    let n : length ds ≡ length part / 2 = ap length (sym (same-figures (b .1))) ∙ length-demands part in
+    (same-figures (b .1), omega (arith, n, leb-true (length part / 2) room (b .0)))
 
 -- ---- Writing, rule by rule
 
