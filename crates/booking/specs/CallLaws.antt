@@ -72,6 +72,10 @@ plannedSays (Refused x) = refused (numberOf x)
 abbrev pub plannedFigures : Planned → PlannedOrder
 plannedFigures x = record { order = x .order; plan = record { buckets = length (x .cutting); cost = trueCost (x .order .tariff) (x .cutting) } }
 
+-- The plan found with what the order says.
+abbrev pub withOrder : Order → Plan → PlannedOrder
+withOrder o x = record { order = o; plan = x }
+
 -- The order is read and its trace spread.
 abbrev pub spreadFrom : ℕ → List ℕ → Answer (List ℕ)
 spreadFrom space bs = andThen (readOrder bs) (λ o. spreadOf space (tracePart bs))
@@ -126,11 +130,8 @@ module _ (bs demands : List ℕ) (plan : RecordLists) where
             sym these-are
             ∙ ap onward (fills-front spreading demands demands′ n f d)
 
-        abbrev withOrder : Plan → PlannedOrder
-        withOrder x = record { order = o; plan = x }
-
         plan-answers : (a : Answer Cutting)
-            → onFigures withOrder (series.planOf (o .tariff) a) ≡ onFigures plannedFigures (onFigures (λ xs. record { order = o; demands = take n demands′; cutting = xs }) a)
+            → onFigures (withOrder o) (series.planOf (o .tariff) a) ≡ onFigures plannedFigures (onFigures (λ xs. record { order = o; demands = take n demands′; cutting = xs }) a)
         plan-answers (figures xs) = refl
         plan-answers (refused m) = refl
 
@@ -139,15 +140,19 @@ module _ (bs demands : List ℕ) (plan : RecordLists) where
         cutting-is (refused m) = refl
 
         pub series-planned : (runs rates depths : List ℕ) (r : Answer Plan) → r ≡ series.planOf (o .tariff) found → Filled found plan (lists runs rates depths)
-            → PlansOrder bs demands plan demands′ (lists runs rates depths) (onFigures withOrder r)
-        series-planned runs rates depths r g k =
+            → (answer : Answer PlannedOrder) → answer ≡ onFigures (withOrder o) r → PlansOrder bs demands plan demands′ (lists runs rates depths) answer
+        series-planned runs rates depths r g k answer h =
             record {
-              answers = ap (onFigures withOrder) g ∙ plan-answers found ∙ ap (onFigures plannedFigures) (sym runs-planned);
+              answers = h ∙ ap (onFigures (withOrder o)) g ∙ plan-answers found ∙ ap (onFigures plannedFigures) (sym runs-planned);
               spreads = spreads-so;
               records = lists-are found plan runs rates depths k ∙ ap (λ (a : Answer Cutting). withRecords a plan) (cutting-is found ∙ ap cuttingOf (sym runs-planned));
             }
 
 -- ---- Recording
+
+-- The booking with what the meters ended with.
+abbrev pub withMeters : PlanFigures → ℕ → MeterTotals → Booking
+withMeters x n t = record { plan = x; length = n; meters = t }
 
 -- The plan is written and read back.
 abbrev pub readFrom : ℕ → ℕ → PlanFigures → RecordLists → Answer Cutting
@@ -262,13 +267,10 @@ module _ (x : PlanFigures) (f : Factor) (ds : List ℕ) (l : RecordLists) (bytes
             → (y .buckets ≤ roomOf runs rates depths) × (CountsRange (length ds) (y .buckets) × (total runLength (recordsOf (y .buckets) runs rates depths) ≡ length ds))
         back-ready q = (back-room, (subst (λ (T : ℕ). CountsRange T (y .buckets)) q back-counts, back-sum ∙ q))
 
-        abbrev withMeters : MeterTotals → Booking
-        withMeters t = record { plan = y; length = n; meters = t }
-
         abbrev recordingWith : List Meter → Recording
         recordingWith ms = record { file = front; plan = plan; meters = ms }
 
-        metered-answers : (a : Answer (List Meter)) → onFigures withMeters (onFigures totalsOf a) ≡ onFigures bookingOf (onFigures recordingWith a)
+        metered-answers : (a : Answer (List Meter)) → onFigures (withMeters y n) (onFigures totalsOf a) ≡ onFigures bookingOf (onFigures recordingWith a)
         metered-answers (figures ms) =
             rw (y-is, front-count writing bytes bytes′ n e b)
         metered-answers (refused m) = refl
@@ -279,11 +281,12 @@ module _ (x : PlanFigures) (f : Factor) (ds : List ℕ) (l : RecordLists) (bytes
             ∙ sym (then-figures (readPlan (roomIn back) front) _ reads-front)
 
         pub plan-metered : (r : Answer MeterTotals) → r ≡ onFigures totalsOf (metersOf f ds (recordsOf (y .buckets) runs rates depths))
-            → RecordsPlan x f ds l bytes back bytes′ (lists runs rates depths) (onFigures withMeters r)
-        plan-metered r t =
+            → (answer : Answer Booking) → answer ≡ onFigures (withMeters y n) r → RecordsPlan x f ds l bytes back bytes′ (lists runs rates depths) answer
+        plan-metered r t answer u =
             record {
               answers =
-                  ap (onFigures withMeters) (t ∙ ap (λ (ys : Cutting). onFigures totalsOf (metersOf f ds ys)) back-records)
+                  u
+                  ∙ ap (onFigures (withMeters y n)) (t ∙ ap (λ (ys : Cutting). onFigures totalsOf (metersOf f ds ys)) back-records)
                   ∙ metered-answers (metersOf f ds xs)
                   ∙ ap (onFigures bookingOf) (sym recorded-so);
               writes = writes-so;

@@ -20,8 +20,11 @@ use terms::Factor;
 use terms::Refusal;
 ghost use mathlib.Core.Path.{_≡_};
 ghost use lib.ListN.{length};
+ghost use Rattle.terms.specs.Answer.{onFigures};
+ghost use Rattle.series.specs.Series.{seriesSays};
 ghost use Rattle.booking.specs.Booking.{bookingSays, lent, lists};
-ghost use Rattle.booking.specs.CallLaws.{Called, PlansOrder, RecordsPlan, plannedSays};
+ghost use Rattle.booking.specs.CallLaws.{Called, PlansOrder, RecordsPlan, plannedSays, withMeters, withOrder};
+ghost use Rattle.booking.specs.MeteringLaws.{totalsSays};
 
 // What an order says and the plan found for it.
 pub struct PlannedOrder {
@@ -70,8 +73,16 @@ fn plan_order(
         FillAnswer::Refused(why) => return PlannedAnswer::Refused(why),
     };
     let tariff = found.tariff;
-    match series(&demands[..periods], tariff, runs, rates, depths) {
-        SeriesAnswer::Found(plan) => PlannedAnswer::Found(PlannedOrder { order: found, plan }),
+    let plan = series(&demands[..periods], tariff, runs, rates, depths);
+    with_order(found, plan)
+}
+
+// The plan found with what the order says, or the refusal.
+fn with_order(order: Order, answer: SeriesAnswer) -> PlannedAnswer
+    ensures { λ r. ⌜ plannedSays r ≡ onFigures (withOrder order) (seriesSays answer) ⌝ }
+{
+    match answer {
+        SeriesAnswer::Found(plan) => PlannedAnswer::Found(PlannedOrder { order, plan }),
         SeriesAnswer::Refused(why) => PlannedAnswer::Refused(why),
     }
 }
@@ -112,9 +123,17 @@ fn record_plan(
         PlanAnswer::Refused(why) => return BookingAnswer::Refused(why),
     };
     let count = recorded.buckets as usize;
-    match meter_runs(trace, factor, count, back_runs, back_rates, back_depths) {
+    let meters = meter_runs(trace, factor, count, back_runs, back_rates, back_depths);
+    with_meters(recorded, length, meters)
+}
+
+// The booking with what the meters ended with, or a meter's refusal.
+fn with_meters(plan: PlanFigures, length: usize, answer: TotalsAnswer) -> BookingAnswer
+    ensures { λ r. ⌜ bookingSays r ≡ onFigures (withMeters plan length) (totalsSays answer) ⌝ }
+{
+    match answer {
         TotalsAnswer::Metered(meters) => BookingAnswer::Booked(Booking {
-            plan: recorded,
+            plan,
             length,
             meters,
         }),

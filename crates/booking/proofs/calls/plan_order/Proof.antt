@@ -7,7 +7,6 @@ use lib.ListN.{length}
 use lib.Seq.{length-take-le}
 use Rattle.terms.specs.Answer.{Answer, figures, onFigures}
 use Rattle.encoding.specs.Fill.{fillSays}
-use Rattle.series.specs.Series.{seriesSays}
 use Rattle.order_file.specs.Order.{orderSays, readOrder, spreadOf}
 use Rattle.booking.specs.Booking.{RecordLists, lists}
 use Rattle.booking.specs.CallLaws.{front-inside, order-refused, spread-refused, series-planned}
@@ -86,11 +85,8 @@ slice-aggregate-series c =
 series-requires : tie.Need-series-requires
 series-requires c κs = search needs
 
-enum-known-plan : tie.Need-enum-known-plan
-enum-known-plan c = search needs
-
-enum-known-why-3 : tie.Need-enum-known-why-3
-enum-known-why-3 c = search needs
+with-order-requires : tie.Need-with-order-requires
+with-order-requires c κs = search needs
 
 same-length-2 : tie.Need-same-length-2
 same-length-2 c = search needs
@@ -106,33 +102,12 @@ same-length-5 c = search needs
 
 returns-3 : tie.Need-returns-3
 returns-3 c =
-    let w = c .before .before .before .before .before .before .before .before .before in
+    let w = c .before .before .before .before .before .before .before in
     let t = w .before .before .before .before .before in
     let p = spread-at t in
     let x = order-at p in
     series-planned _ _ (given (start-at x)) _ (read x) _ (p .before .before .trace-part .ensures) _ (p .spread .ensures .1) _ (filled-so t) _ _ _ _
-    (sym (ap seriesSays (c .before .plan .given .1)) ∙ w .series .ensures .0) (w .series .ensures .1)
-
-same-length-6 : tie.Need-same-length-6
-same-length-6 c = search needs
-
-same-length-7 : tie.Need-same-length-7
-same-length-7 c = search needs
-
-same-length-8 : tie.Need-same-length-8
-same-length-8 c = search needs
-
-same-length-9 : tie.Need-same-length-9
-same-length-9 c = search needs
-
-returns-4 : tie.Need-returns-4
-returns-4 c =
-    let w = c .before .before .before .before .before .before .before .before .before in
-    let t = w .before .before .before .before .before in
-    let p = spread-at t in
-    let x = order-at p in
-    series-planned _ _ (given (start-at x)) _ (read x) _ (p .before .before .trace-part .ensures) _ (p .spread .ensures .1) _ (filled-so t) _ _ _ _
-    (sym (ap seriesSays (c .before .why3 .given .1)) ∙ w .series .ensures .0) (w .series .ensures .1)
+    (w .series .ensures .0) (w .series .ensures .1) _ (c .with-order .ensures)
 
 pub plan-order-spec : {M : Type 1} → statement M
 plan-order-spec =
@@ -151,15 +126,9 @@ plan-order-spec =
     slice-reshare-prefix-series
     slice-aggregate-series
     series-requires
-    enum-known-plan
-    enum-known-why-3
+    with-order-requires
     same-length-2
     same-length-3
     same-length-4
     same-length-5
-    returns-3
-    same-length-6
-    same-length-7
-    same-length-8
-    same-length-9
-    returns-4)
+    returns-3)

@@ -13,7 +13,6 @@ use Rattle.terms.specs.LentLaws.{room-each}
 use Rattle.encoding.specs.Fill.{fillSays}
 use Rattle.plan_file.specs.Plan.{planSays, writePlan}
 use Rattle.booking.specs.Booking.{RecordLists, lists, roomIn}
-use Rattle.booking.specs.MeteringLaws.{totalsSays}
 use Rattle.booking.specs.CallLaws.{front-inside, no-room, write-refused, read-taken, back-ready, plan-metered}
 use borrow.Author.Needs.{needs}
 use borrow.Author.Needs.{needs}
@@ -140,15 +139,12 @@ meter-runs-requires c κs =
     back-ready (a .plan) (a .factor) (a .trace .now) (filled-lists s) (a .bytes .now) (back s) (room e) _ (w .write-plan .ensures .1) _ (written-so n)
     (x .x .given .0 .0) (sym (ap planSays (x .x .given .1)) ∙ p .read-plan .ensures .0) _ _ _ (p .read-plan .ensures .1) (s .pre)
 
-enum-known-meters : tie.Need-enum-known-meters
-enum-known-meters c = search needs
-
-enum-known-why-3 : tie.Need-enum-known-why-3
-enum-known-why-3 c = search needs
+with-meters-requires : tie.Need-with-meters-requires
+with-meters-requires c κs = search needs
 
 same-length-6 : tie.Need-same-length-6
 same-length-6 c =
-    let x = c .before .before .before .before .before .before .before .before .before in
+    let x = c .before .before .before .before .before .before .before in
     let n = told (read-at x) in
     n .before .before .before .before .bytes .given
 
@@ -163,7 +159,7 @@ same-length-9 c = search needs
 
 returns-4 : tie.Need-returns-4
 returns-4 c =
-    let t = c .before .before .before in
+    let t = c .before in
     let x = t .before .before .before .before .before .before in
     let p = read-at x in
     let n = told p in
@@ -172,34 +168,7 @@ returns-4 c =
     let s = start-at e in
     let a = s .args in
     plan-metered (a .plan) (a .factor) (a .trace .now) (filled-lists s) (a .bytes .now) (back s) (room e) _ (w .write-plan .ensures .1) _ (written-so n)
-    (x .x .given .0 .0) (sym (ap planSays (x .x .given .1)) ∙ p .read-plan .ensures .0) _ _ _ (p .read-plan .ensures .1) _
-    (sym (ap totalsSays (c .before .meters .given .1)) ∙ t .meter-runs .ensures)
-
-same-length-10 : tie.Need-same-length-10
-same-length-10 c = search needs
-
-same-length-11 : tie.Need-same-length-11
-same-length-11 c = search needs
-
-same-length-12 : tie.Need-same-length-12
-same-length-12 c = search needs
-
-same-length-13 : tie.Need-same-length-13
-same-length-13 c = search needs
-
-returns-5 : tie.Need-returns-5
-returns-5 c =
-    let t = c .before .before .before in
-    let x = t .before .before .before .before .before .before in
-    let p = read-at x in
-    let n = told p in
-    let w = write-at n in
-    let e = w .before .before in
-    let s = start-at e in
-    let a = s .args in
-    plan-metered (a .plan) (a .factor) (a .trace .now) (filled-lists s) (a .bytes .now) (back s) (room e) _ (w .write-plan .ensures .1) _ (written-so n)
-    (x .x .given .0 .0) (sym (ap planSays (x .x .given .1)) ∙ p .read-plan .ensures .0) _ _ _ (p .read-plan .ensures .1) _
-    (sym (ap totalsSays (c .before .why3 .given .1)) ∙ t .meter-runs .ensures)
+    (x .x .given .0 .0) (sym (ap planSays (x .x .given .1)) ∙ p .read-plan .ensures .0) _ _ _ (p .read-plan .ensures .1) _ (t .meter-runs .ensures) _ (c .with-meters .ensures)
 
 pub record-plan-spec : {M : Type 1} → statement M
 record-plan-spec =
@@ -224,15 +193,9 @@ record-plan-spec =
     returns-3
     cast-count
     meter-runs-requires
-    enum-known-meters
-    enum-known-why-3
+    with-meters-requires
     same-length-6
     same-length-7
     same-length-8
     same-length-9
-    returns-4
-    same-length-10
-    same-length-11
-    same-length-12
-    same-length-13
-    returns-5)
+    returns-4)

@@ -1,0 +1,25 @@
+-- Each case of the answer has its own case of the definition.
+use mathlib.Core.Path.{sym, ap}
+use Rattle.terms.specs.Answer.{onFigures}
+use Rattle.booking.specs.declared.metering.TotalsAnswer.{TotalsAnswer}
+use Rattle.booking.specs.MeteringLaws.{totalsSays}
+use Rattle.booking.specs.CallLaws.{withMeters}
+use borrow.Author.Needs.{needs}
+use borrow.Author.Needs.{needs}
+use Rattle.booking.proofs.calls.with_meters.Statement.{statement}
+use Rattle.booking.proofs.calls.with_meters.Tie as tie
+
+enum-known-answer : tie.Need-enum-known-answer
+enum-known-answer c = search needs
+
+enum-known-answer-2 : tie.Need-enum-known-answer-2
+enum-known-answer-2 c = search needs
+
+returns : tie.Need-returns
+returns c = let a = c .before .before .before .args in sym (ap (λ (t : TotalsAnswer). onFigures (withMeters (a .plan) (a .length)) (totalsSays t)) (c .before .answer .given .1))
+
+returns-2 : tie.Need-returns-2
+returns-2 c = let a = c .before .before .before .args in sym (ap (λ (t : TotalsAnswer). onFigures (withMeters (a .plan) (a .length)) (totalsSays t)) (c .before .answer2 .given .1))
+
+pub with-meters-spec : {M : Type 1} → statement M
+with-meters-spec = tie.close (tie.spec enum-known-answer enum-known-answer-2 returns returns-2)
