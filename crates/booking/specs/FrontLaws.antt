@@ -30,17 +30,10 @@ pub record FrontOnly (old new : List ℕ) : Type 0 where
   pub same : length new ≡ length old
   pub rest : drop (frontLength old) new ≡ drop (frontLength old) old
 
--- As many entries as the front has are in the list, and in one of 512 entries.
-pub front-inside : (n k : ℕ) → n ≡ min k traceLimit → (xs : List ℕ) → length xs ≡ k → length (take n xs) ≡ n
-front-inside n k e xs l = length-take-le n xs (omega (arith, e, l))
-
-pub front-room : (n k : ℕ) → n ≡ min k traceLimit → (xs : List ℕ) → length xs ≡ traceLimit → length (take n xs) ≡ n
-front-room n k e xs l = length-take-le n xs (omega (arith, e, l))
-
 -- What is stored at the front of a list of 512 entries is kept there.
 pub front-kept : (xs zeros front : List ℕ) (n : ℕ) → n ≡ frontLength xs → length zeros ≡ traceLimit → front ≡ sets zeros 0 (take n xs) → Front xs front
 front-kept xs zeros front n f z e =
-    let m = front-inside n (length xs) f xs refl in
+    let m : length (take n xs) ≡ n = length-take-le n xs (omega (arith, f)) in
     record {
       size = sym (ap length e ∙ length-sets zeros 0 (take n xs) ∙ z);
       is =

@@ -1,9 +1,10 @@
 -- The front is stored at the front of 512 zeros.
 use Prim.Native.Nat.{ℕ}
 use native.Mathlib.Omega.{arith}
-use mathlib.Core.Path.{refl, sym}
+use mathlib.Core.Path.{sym}
 use lib.ListN.{length-replicate}
-use Rattle.booking.specs.FrontLaws.{front-inside, front-kept}
+use lib.Seq.{length-take-le}
+use Rattle.booking.specs.FrontLaws.{front-kept}
 use borrow.Author.Needs.{needs}
 use borrow.Author.Needs.{needs}
 use Rattle.booking.proofs.fronts.keep.Statement.{statement}
@@ -13,7 +14,7 @@ front-length-requires : tie.Need-front-length-requires
 front-length-requires c κs = search needs
 
 slice-aggregate-store : tie.Need-slice-aggregate-store
-slice-aggregate-store c = sym (front-inside _ _ (c .before .front-length .ensures) _ refl)
+slice-aggregate-store c = sym (length-take-le _ _ (omega (arith, c .before .front-length .ensures)))
 
 slice-aggregate-store-2 : tie.Need-slice-aggregate-store-2
 slice-aggregate-store-2 c = search needs
@@ -21,7 +22,8 @@ slice-aggregate-store-2 c = search needs
 store-requires : tie.Need-store-requires
 store-requires c κs =
     let f = c .before .before in
-    omega (arith, f .front-length .ensures, front-inside _ _ (f .front-length .ensures) (f .before .before .args .list .now) refl, length-replicate {0} {A = ℕ} 512 0)
+    let n = f .front-length .ensures in
+    omega (arith, n, length-take-le (f .front-length .result) (f .before .before .args .list .now) (omega (arith, n)), length-replicate {0} {A = ℕ} 512 0)
 
 returns : tie.Need-returns
 returns c = front-kept _ _ _ _ (c .before .before .before .before .front-length .ensures) (length-replicate {0} {A = ℕ} 512 0) (c .before .store .ensures)

@@ -3,8 +3,7 @@ use Prim.Native.Nat.{ℕ}
 use native.Mathlib.Omega.{arith}
 use mathlib.Core.Path.{sym, ap, _∙_}
 use lib.ListN.{take}
-use lib.Seq.{sets}
-use Rattle.booking.specs.FrontLaws.{front-room}
+use lib.Seq.{sets, length-take-le}
 use borrow.Author.Needs.{needs}
 use borrow.Author.Needs.{needs}
 use Rattle.booking.proofs.fronts.put_back.Statement.{statement}
@@ -14,13 +13,14 @@ front-length-requires : tie.Need-front-length-requires
 front-length-requires c κs = search needs
 
 slice-aggregate-store : tie.Need-slice-aggregate-store
-slice-aggregate-store c = sym (front-room _ _ (c .before .front-length .ensures) _ (c .before .before .before .before .pre))
+slice-aggregate-store c = sym (length-take-le _ _ (omega (arith, c .before .front-length .ensures, c .before .before .before .before .pre)))
 
 store-requires : tie.Need-store-requires
 store-requires c κs =
     let f = c .before .before in
     let s = f .before .before .before in
-    omega (arith, f .front-length .ensures, front-room _ _ (f .front-length .ensures) (s .args .front .now) (s .pre))
+    let n = f .front-length .ensures in
+    omega (arith, n, length-take-le (f .front-length .result) (s .args .front .now) (omega (arith, n, s .pre)))
 
 same-length : tie.Need-same-length
 same-length c = search needs
