@@ -2,7 +2,7 @@
 -- Assumes nothing.
 use Prim.Native.Nat.{ℕ, suc, _+_, _-_, _*_, _/_, _%_, _^_, _≤_, _<_}
 use native.Mathlib.Omega.{arith}
-use native.Mathlib.Nat.{zero-lt-suc, div-le-self, div-div-eq-div-mul, mod-add-div, mod-lt}
+use native.Mathlib.Nat.{zero-lt-suc, div-le-self, div-div-eq-div-mul, div-lt-iff-lt-mul, mod-add-div}
 use mathlib.Core.Path.{_≡_, refl, sym, ap, _∙_}
 use mathlib.Core.Bool.{Bool, true, false, cond}
 use mathlib.Core.List.{List, [], _∷_, _++_}
@@ -103,7 +103,7 @@ figures-differ x y h k e = sym (figure-named x h) ∙ ap named e ∙ figure-name
 
 -- ---- How long the text is
 
-pub megabits-short : (z : ℤ) (k : ℕ) → natAbs z / 1000 < 10 ^ suc k → length (megabits z) ≤ length (sign z) + k + 5
+pub megabits-short : (z : ℤ) (k : ℕ) → natAbs z < 10 ^ suc k * 1000 → length (megabits z) ≤ length (sign z) + k + 5
 megabits-short z k h =
     let n = natAbs z in
     let whole = numeral (n / 1000) in
@@ -113,5 +113,13 @@ megabits-short z k h =
       length-append (sign z) (ended whole point),
       length-append whole (point ∷ []),
       length-digits 3 n,
-      numeral-short 19 k (n / 1000) h,
+      numeral-short 19 k (n / 1000) (div-lt-iff-lt-mul (zero-lt-suc 999) .1 h),
     )
+
+sign-short : (z : ℤ) → length (sign z) ≤ 1
+sign-short (pos n) = omega arith
+sign-short (negsuc n) = omega arith
+
+-- A figure of 64 bits.
+pub figure-short : (z : ℤ) → natAbs z ≤ 2 ^ 63 → length (megabits z) ≤ 21
+figure-short z h = omega (arith, megabits-short z 15 (omega (arith, h)), sign-short z)

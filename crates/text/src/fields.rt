@@ -1,7 +1,8 @@
 // The fields of a line, each stored with the byte behind it. Public only for this crate's calls and
 // the crates above, which show what is required.
-use crate::megabits::put_megabits;
+use crate::figures::put_megabits;
 ghost use Prim.Native.Nat.{_+_, _≤_};
+ghost use lib.IntN.{pos};
 ghost use lib.ListN.{length};
 ghost use Rattle.text.specs.Megabits.{megabits};
 ghost use Rattle.text.specs.Numeral.{ended};
@@ -15,6 +16,14 @@ pub fn put_figure(text: &mut [u8], at: usize, figure: i64, after: u8) -> usize
     let end = put_megabits(text, at, figure);
     text[end] = after;
     end + 1
+}
+
+// Stores tokens in megabits, then a byte.
+pub fn put_tokens(text: &mut [u8], at: usize, tokens: u32, after: u8) -> usize
+    requires { ⌜ at + length (ended (megabits (pos tokens)) after) ≤ length (now text) ⌝ }
+    ensures { λ r. ⌜ Puts (now (text .entry)) at (ended (megabits (pos tokens)) after) (now (text .exit)) r ⌝ }
+{
+    put_figure(text, at, tokens as i64, after)
 }
 
 // Stores a word, then a byte.

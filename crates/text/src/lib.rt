@@ -1,4 +1,10 @@
 // The text of figures and of the sheet's lines, in ASCII.
 pub mod fields;
-pub mod megabits;
+pub mod figures;
+pub mod fills;
+pub mod lines;
 pub mod numerals;
+mod texts;
+
+pub use texts::megabits;
+pub use texts::refusal_line;

@@ -9,8 +9,8 @@ use lib.Signed.{ltZ, ltZ-no, yes-nonNeg, natAbs-le}
 use mir.Syntax.{w64}
 use mir.Val.{SFits, toZ, ofZ}
 use mir.Facts.{toZ-ofZ, toZ-pos}
-use Rattle.text.proofs.megabits.magnitude.Statement.{statement}
-use Rattle.text.proofs.megabits.magnitude.Tie as tie
+use Rattle.text.proofs.figures.magnitude.Statement.{statement}
+use Rattle.text.proofs.figures.magnitude.Tie as tie
 
 -- the bits of a number below 0, turned over
 turned : (z : ℤ) → SFits w64 z → ltZ z (pos 0) ≡ true → toZ w64 (18446744073709551615 - ofZ w64 z) ≡ pos (natAbs z - 1)

@@ -4,8 +4,8 @@ use native.Mathlib.Omega.{arith}
 use mir.Facts.{toZ-ofZ}
 use Rattle.text.specs.PutLaws.{sign-room, whole-room, places-room, puts-megabits}
 use borrow.Author.Needs.{needs}
-use Rattle.text.proofs.megabits.put_megabits.Statement.{statement}
-use Rattle.text.proofs.megabits.put_megabits.Tie as tie
+use Rattle.text.proofs.figures.put_megabits.Statement.{statement}
+use Rattle.text.proofs.figures.put_megabits.Tie as tie
 
 magnitude-requires : tie.Need-magnitude-requires
 magnitude-requires c κs = search needs

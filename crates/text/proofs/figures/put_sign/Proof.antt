@@ -9,8 +9,8 @@ use lib.Signed.{ltZ}
 use mir.Facts.{toZ-ofZ}
 use Rattle.text.specs.PutLaws.{puts-sign, puts-no-sign, sign-length}
 use borrow.Author.Needs.{needs}
-use Rattle.text.proofs.megabits.put_sign.Statement.{statement}
-use Rattle.text.proofs.megabits.put_sign.Tie as tie
+use Rattle.text.proofs.figures.put_sign.Statement.{statement}
+use Rattle.text.proofs.figures.put_sign.Tie as tie
 
 -- the figure whose bits were tested
 below : (c : tie.Then1) → ltZ (c .before .args .figure) (pos 0) ≡ true

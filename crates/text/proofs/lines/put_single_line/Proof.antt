@@ -1,0 +1,50 @@
+-- The three parts are stored one behind the other.
+use borrow.Author.Needs.{needs}
+use Rattle.text.specs.Lines.{bucketFields, newline, singleWord, space}
+use Rattle.text.specs.Numeral.{ended, numeral}
+use Rattle.text.specs.ChainLaws.{first-of-three, second-of-three, third-of-three, three}
+use Rattle.text.proofs.lines.put_single_line.Statement.{statement}
+use Rattle.text.proofs.lines.put_single_line.Tie as tie
+
+slice-aggregate-put-word : tie.Need-slice-aggregate-put-word
+slice-aggregate-put-word c = search needs
+
+put-word-requires : tie.Need-put-word-requires
+put-word-requires c κs =
+    let s = c .before .before .before in
+    first-of-three (s .args .text .now) (s .args .at) (ended singleWord space) (bucketFields (s .args .bucket)) (ended (numeral (s .args .cost)) newline) (s .pre)
+
+put-bucket-requires : tie.Need-put-bucket-requires
+put-bucket-requires c κs =
+    let c1 = c .before .before .before in
+    let s = c1 .before .before .before .before in
+    second-of-three (s .args .text .now) (s .args .at) (ended singleWord space) (bucketFields (s .args .bucket)) (ended (numeral (s .args .cost)) newline) (s .pre) (c1 .put-word .ensures)
+
+put-number-requires : tie.Need-put-number-requires
+put-number-requires c κs =
+    let c2 = c .before .before .before in
+    let c1 = c2 .before .before .before .before in
+    let s = c1 .before .before .before .before in
+    third-of-three (s .args .text .now) (s .args .at) (ended singleWord space) (bucketFields (s .args .bucket)) (ended (numeral (s .args .cost)) newline) (s .pre) (c1 .put-word .ensures) (c2 .put-bucket .ensures)
+
+same-length : tie.Need-same-length
+same-length c = search needs
+
+returns : tie.Need-returns
+returns c =
+    let c3 = c .before .before in
+    let c2 = c3 .before .before .before .before in
+    let c1 = c2 .before .before .before .before in
+    let s = c1 .before .before .before .before in
+    three (s .args .text .now) (s .args .at) (ended singleWord space) (bucketFields (s .args .bucket)) (ended (numeral (s .args .cost)) newline) (c1 .put-word .ensures) (c2 .put-bucket .ensures) (c3 .put-number .ensures)
+
+pub put-single-line-spec : {M : Type 1} → statement M
+put-single-line-spec =
+    tie.close
+    (tie.spec
+    slice-aggregate-put-word
+    put-word-requires
+    put-bucket-requires
+    put-number-requires
+    same-length
+    returns)

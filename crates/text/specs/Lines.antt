@@ -1,0 +1,55 @@
+-- The lines of the printed sheet (01, "The printed sheet": one space between fields, byte 10 after each line), and a line each for
+-- the trial, the single bucket and a refusal.
+-- Assumes nothing.
+use Prim.Native.Nat.{ℕ}
+use mathlib.Core.List.{List, [], _∷_, _++_}
+use lib.IntN.{ℤ, pos}
+use Rattle.terms.specs.declared.Bucket.{Bucket}
+use Rattle.text.specs.Numeral.{numeral, ended}
+use Rattle.text.specs.Megabits.{megabits}
+
+abbrev pub space : ℕ
+space = 32
+
+abbrev pub newline : ℕ
+newline = 10
+
+-- ---- Words
+
+abbrev pub planWord : List ℕ
+planWord = 112 ∷ 108 ∷ 97 ∷ 110 ∷ []
+
+abbrev pub refusedWord : List ℕ
+refusedWord = 114 ∷ 101 ∷ 102 ∷ 117 ∷ 115 ∷ 101 ∷ 100 ∷ []
+
+abbrev pub trialWord : List ℕ
+trialWord = 116 ∷ 114 ∷ 105 ∷ 97 ∷ 108 ∷ []
+
+abbrev pub singleWord : List ℕ
+singleWord = 115 ∷ 105 ∷ 110 ∷ 103 ∷ 108 ∷ 101 ∷ []
+
+-- ---- Lines
+
+-- The first line: the word plan, T, bucket count, cost. The cost is a plain number.
+abbrev pub planLine : ℕ → ℕ → ℕ → List ℕ
+planLine periods buckets cost = ended planWord space ++ ended (numeral periods) space ++ ended (numeral buckets) space ++ ended (numeral cost) newline
+
+-- Rate and depth, in megabits.
+abbrev pub bucketFields : Bucket → List ℕ
+bucketFields b = ended (megabits (pos (b .rate .0))) space ++ ended (megabits (pos (b .depth .0))) space
+
+-- A bucket's line: first period, last period, rate, depth, spare, the last three in megabits.
+abbrev pub bucketLine : ℕ → ℕ → Bucket → ℤ → List ℕ
+bucketLine first last b spare = ended (numeral first) space ++ ended (numeral last) space ++ bucketFields b ++ ended (megabits spare) newline
+
+-- The word refused, a space and the number.
+abbrev pub refusalLine : ℕ → List ℕ
+refusalLine number = ended refusedWord space ++ ended (numeral number) newline
+
+-- A trial: the word trial, spare and discards, both in megabits.
+abbrev pub trialLine : ℤ → ℕ → List ℕ
+trialLine spare over = ended trialWord space ++ ended (megabits spare) space ++ ended (megabits (pos over)) newline
+
+-- The single bucket: the word single, rate and depth in megabits, cost.
+abbrev pub singleLine : Bucket → ℕ → List ℕ
+singleLine b cost = ended singleWord space ++ bucketFields b ++ ended (numeral cost) newline

@@ -1,0 +1,78 @@
+// The lines of the sheet and of the other services, stored in a text. Public only for this crate's
+// calls and the crates above, which show what is required.
+use crate::fields::put_figure;
+use crate::fields::put_tokens;
+use crate::fields::put_word;
+use crate::numerals::put_number;
+use terms::Bucket;
+ghost use Prim.Native.Nat.{_+_, _≤_};
+ghost use lib.ListN.{length};
+ghost use Rattle.text.specs.Lines.{bucketFields, bucketLine, planLine, refusalLine, singleLine, trialLine};
+ghost use Rattle.text.specs.PutLaws.{Puts};
+
+// The sheet's first line.
+pub fn put_plan_line(text: &mut [u8], at: usize, periods: u32, buckets: u32, cost: u64) -> usize
+    requires { ⌜ at + length (planLine periods buckets cost) ≤ length (now text) ⌝ }
+    ensures { λ r. ⌜ Puts (now (text .entry)) at (planLine periods buckets cost) (now (text .exit)) r ⌝ }
+{
+    let counts = put_word(text, at, b"plan", b' ');
+    let second = put_number(text, counts, periods as u64, b' ');
+    let third = put_number(text, second, buckets as u64, b' ');
+    put_number(text, third, cost, b'\n')
+}
+
+// A bucket's rate and depth.
+fn put_bucket(text: &mut [u8], at: usize, bucket: Bucket) -> usize
+    requires { ⌜ at + length (bucketFields bucket) ≤ length (now text) ⌝ }
+    ensures { λ r. ⌜ Puts (now (text .entry)) at (bucketFields bucket) (now (text .exit)) r ⌝ }
+{
+    let depth = put_tokens(text, at, bucket.rate.0, b' ');
+    put_tokens(text, depth, bucket.depth.0, b' ')
+}
+
+// A bucket's line.
+pub fn put_bucket_line(
+    text: &mut [u8],
+    at: usize,
+    first: u32,
+    last: u32,
+    bucket: Bucket,
+    spare: i64,
+) -> usize
+    requires { ⌜ at + length (bucketLine first last bucket spare) ≤ length (now text) ⌝ }
+    ensures { λ r. ⌜ Puts (now (text .entry)) at (bucketLine first last bucket spare) (now (text .exit)) r ⌝ }
+{
+    let second = put_number(text, at, first as u64, b' ');
+    let fields = put_number(text, second, last as u64, b' ');
+    let end = put_bucket(text, fields, bucket);
+    put_figure(text, end, spare, b'\n')
+}
+
+// The line of a refusal.
+pub fn put_refusal_line(text: &mut [u8], at: usize, number: u32) -> usize
+    requires { ⌜ at + length (refusalLine number) ≤ length (now text) ⌝ }
+    ensures { λ r. ⌜ Puts (now (text .entry)) at (refusalLine number) (now (text .exit)) r ⌝ }
+{
+    let end = put_word(text, at, b"refused", b' ');
+    put_number(text, end, number as u64, b'\n')
+}
+
+// The line of a trial.
+pub fn put_trial_line(text: &mut [u8], at: usize, spare: i64, over: u32) -> usize
+    requires { ⌜ at + length (trialLine spare over) ≤ length (now text) ⌝ }
+    ensures { λ r. ⌜ Puts (now (text .entry)) at (trialLine spare over) (now (text .exit)) r ⌝ }
+{
+    let second = put_word(text, at, b"trial", b' ');
+    let third = put_figure(text, second, spare, b' ');
+    put_tokens(text, third, over, b'\n')
+}
+
+// The line of a single bucket.
+pub fn put_single_line(text: &mut [u8], at: usize, bucket: Bucket, cost: u64) -> usize
+    requires { ⌜ at + length (singleLine bucket cost) ≤ length (now text) ⌝ }
+    ensures { λ r. ⌜ Puts (now (text .entry)) at (singleLine bucket cost) (now (text .exit)) r ⌝ }
+{
+    let fields = put_word(text, at, b"single", b' ');
+    let end = put_bucket(text, fields, bucket);
+    put_number(text, end, cost, b'\n')
+}
