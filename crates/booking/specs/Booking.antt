@@ -16,18 +16,13 @@ use Rattle.order_file.specs.declared.orders.Order.{Order}
 use Rattle.order_file.specs.Order.{readOrder, tracePart, spreadOf}
 use Rattle.plan_file.specs.declared.plans.PlanFigures.{PlanFigures}
 use Rattle.plan_file.specs.Plan.{Recorded, readPlan, writePlan}
+use Rattle.planning.specs.Planning.{RecordLists, Planned, roomIn, withRecords, planned}
 use Rattle.booking.specs.declared.metering.MeterTotals.{MeterTotals}
 use Rattle.booking.specs.declared.calls.Booking.{Booking}
 use Rattle.booking.specs.declared.calls.BookingAnswer.{BookingAnswer}
 use Rattle.booking.specs.declared.calls.BookingAnswer.the-variants.{Booked, Refused}
 
 -- ---- What is lent, as it is at one moment
-
--- Three lists lent for bucket records.
-pub record RecordLists : Type 0 where
-  pub runs : List ℕ
-  pub rates : List ℕ
-  pub depths : List ℕ
 
 -- Everything that is lent.
 pub record Lent : Type 0 where
@@ -40,36 +35,9 @@ pub record Lent : Type 0 where
   -- and read back into these lists
   pub back : RecordLists
 
--- The same two by their parts, for contracts.
-abbrev pub lists : List ℕ → List ℕ → List ℕ → RecordLists
-lists xs ys zs = record { runs = xs; rates = ys; depths = zs }
-
+-- The same by its parts, for contracts.
 abbrev pub lent : List ℕ → RecordLists → List ℕ → RecordLists → Lent
 lent ds l bs k = record { demands = ds; plan = l; bytes = bs; back = k }
-
--- The entries of the shortest of three lists.
-abbrev pub roomIn : RecordLists → ℕ
-roomIn l = roomOf (l .runs) (l .rates) (l .depths)
-
--- Lists with the records of an answer at their front; on a refusal they are as they were.
-abbrev pub withRecords : Answer Cutting → RecordLists → RecordLists
-withRecords a old = record { runs = recorded runLength a (old .runs); rates = recorded runRate a (old .rates); depths = recorded runDepth a (old .depths) }
-
--- ---- Planning
-
--- What the calls up to planning give.
-pub record Planned : Type 0 where
-  pub order : Order
-  pub demands : List ℕ
-  pub cutting : Cutting
-
--- The series is planned with the tariff read and the T numbers spread, with `room` entries to plan into.
-abbrev pub plannedRuns : Order → List ℕ → ℕ → Answer Planned
-plannedRuns o ds room = onFigures (λ xs. record { order = o; demands = ds; cutting = xs }) (seriesOf (o .tariff) room ds)
-
--- The order is read; its trace part is handed back and spread, into `space` entries; the series is planned.
-abbrev pub planned : ℕ → ℕ → List ℕ → Answer Planned
-planned space room bs = andThen (readOrder bs) (λ o. andThen (spreadOf space (tracePart bs)) (λ ds. plannedRuns o ds room))
 
 -- ---- Recording
 

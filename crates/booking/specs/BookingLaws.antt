@@ -33,7 +33,9 @@ use Rattle.order_file.specs.OrderLaws.{demands-count}
 use Rattle.order_file.specs.OrderRules.{orderIn, read-rules, part-read, length-demands, spread-rules}
 use Rattle.plan_file.specs.PlanRules.{CountsRange}
 use Rattle.plan_file.specs.RecordLaws.{RecordsRange, noRecord}
-use Rattle.booking.specs.Booking.{Lent, Planned, plannedFor, roomIn, metersOf}
+use Rattle.planning.specs.Planning.{Planned}
+use Rattle.planning.specs.PlannedLaws.{IsPlanned, spread-demands, planned-order, planned-cheapest, carried-sum, carried-some, served-range}
+use Rattle.booking.specs.Booking.{metersOf}
 use Rattle.booking.specs.Claim.{periodsIn, demandsAt, SeriesAnswer}
 
 -- ---- The demands in the file
@@ -81,63 +83,19 @@ module _ (bs : List ℕ) (o : Order) (e : readOrder bs ≡ figures o) where
 
 -- ---- The order read, spread and planned
 
--- The calls up to planning gave x.
-pub record IsPlanned (old : Lent) (bs : List ℕ) (x : Planned) : Type 0 where
-  pub read : readOrder bs ≡ figures (x .order)
-  pub spread : spreadOf (length (old .demands)) (tracePart bs) ≡ figures (x .demands)
-  pub series : seriesOf (x .order .tariff) (roomIn (old .plan)) (x .demands) ≡ figures (x .cutting)
+module _ {space room : ℕ} {bs : List ℕ} {x : Planned} (p : IsPlanned space room bs x) where
+  -- the demands are those in the file's bytes
+  pub planned-demands : x .demands ≡ demandsAt bs
+  planned-demands = sym (spread-demands p) ∙ order-demands bs (x .order) (p .read)
 
-module _ (old : Lent) (bs : List ℕ) where
-  pub is-planned : (x : Planned) → plannedFor old bs ≡ figures x → IsPlanned old bs x
-  is-planned x e =
-      let a = then-found (readOrder bs) _ e in
-      let b = then-found (spreadOf (length (old .demands)) (tracePart bs)) _ (a .2) in
-      let c = on-figures _ (seriesOf (a .0 .tariff) (roomIn (old .plan)) (b .0)) (b .2) in
-      subst (IsPlanned old bs) (c .2) (record { read = a .1; spread = b .1; series = c .1 })
-
-  module _ (x : Planned) (p : IsPlanned old bs x) where
-    spread-demands : demandsIn (tracePart bs) ≡ x .demands
-    spread-demands = spread-rules (length (old .demands)) (tracePart bs) (x .demands) (p .spread) .0
-
-    -- the demands are as many as the order's T
-    pub planned-count : length (x .demands) ≡ x .order .periods
-    planned-count = ap length (sym spread-demands) ∙ demands-count bs (x .order) (p .read)
-
-    pub planned-order : x .order ≡ orderIn bs
-    planned-order = read-rules bs (x .order) (p .read) .1
-
-    -- … and those in the file's bytes
-    pub planned-demands : x .demands ≡ demandsAt bs
-    planned-demands = sym spread-demands ∙ order-demands bs (x .order) (p .read)
-
-    pub planned-range : PeriodsRange (length (x .demands)) × TariffRange (x .order .tariff)
-    planned-range =
-        let r = read-rules bs (x .order) (p .read) .0 in (
-          subst PeriodsRange (sym (planned-count ∙ ap (λ (o : Order). o .periods) planned-order)) (r .periods),
-          subst TariffRange (sym (ap (λ (o : Order). o .tariff) planned-order)) (r .tariff),
-        )
-
-    -- the cutting is the series answer for them
-    pub planned-cheapest : Cheapest (x .order .tariff) (x .demands) (x .cutting)
-    planned-cheapest = series-cheapest (x .order .tariff) (x .demands) (roomIn (old .plan)) (x .cutting) (p .series)
-
-    pub planned-series : SeriesAnswer bs (x .cutting)
-    planned-series =
-        subst (λ (ds : List ℕ). Cheapest (tariffIn bs) ds (x .cutting)) planned-demands
-        (subst (λ (o : Order). Cheapest (o .tariff) (x .demands) (x .cutting)) planned-order planned-cheapest)
+  pub planned-series : SeriesAnswer bs (x .cutting)
+  planned-series =
+      subst (λ (ds : List ℕ). Cheapest (tariffIn bs) ds (x .cutting)) planned-demands
+      (subst (λ (o : Order). Cheapest (o .tariff) (x .demands) (x .cutting)) (planned-order p) (planned-cheapest p))
 
 -- ---- A carried cutting
 
 module _ (t : Tariff) where
-  carried-sum : {ds : List ℕ} {xs : Cutting} → Carried t ds xs → total runLength xs ≡ length ds
-  unfolding total
-  carried-sum none = refl
-  carried-sum (run {ds} {x} {xs} f c) = omega (arith, f .inside, carried-sum c, length-drop (x .periods) ds)
-
-  carried-some : {ds : List ℕ} {xs : Cutting} → Carried t ds xs → 1 ≤ length ds → 1 ≤ length xs
-  carried-some none l = l
-  carried-some (run f c) l = omega arith
-
   -- The rules of a plan of T periods.
   pub record PlanRange (T : ℕ) (xs : Cutting) : Type 0 where
     pub counts : CountsRange T (length xs)
@@ -149,22 +107,18 @@ module _ (t : Tariff) where
   NothingOver ds xs = (ms : List Meter) × (metersOf (t .factor) ds xs ≡ figures ms) × Each (λ m. m .over ≡ 0) ms
 
   module _ (h : TariffRange t) where
-    served-range : {ds : List ℕ} {x : BucketRecord} → FirstRun runLength (ServesRun t) ds x → RecordRange x
-    served-range f =
-        record { some = f .some; bucket = record { rates = le-trans (f .fits .rates) (h .rate-caps); depths = le-trans (f .fits .depths) (h .depth-caps) } }
-
     carried-each : {ds : List ℕ} {xs : Cutting} → Carried t ds xs → (i : ℕ) → i < length xs → RecordRange (getD xs i noRecord)
     carried-each none i l = absurd (omega arith)
-    carried-each (run f c) zero l = served-range f
+    carried-each (run f c) zero l = served-range t h f
     carried-each (run f c) (suc i) l = carried-each c i (omega arith)
 
     -- Its figures keep the rules of a plan.
     pub carried-plan : {ds : List ℕ} {xs : Cutting} → PeriodsRange (length ds) → Carried t ds xs → PlanRange (length ds) xs
     carried-plan {ds} {xs} p c =
         record {
-          counts = record { periods = p; some = carried-some c (p .some); few = carried-count t c };
+          counts = record { periods = p; some = carried-some t c (p .some); few = carried-count t c };
           cost = omega (arith, carried-cost t h c, p .few);
-          records = record { each = carried-each c; sum = carried-sum c };
+          records = record { each = carried-each c; sum = carried-sum t c };
         }
 
     -- Its meters, run by run, refuse nothing and discard nothing.
@@ -174,7 +128,7 @@ module _ (t : Tariff) where
     carried-meters d l (run {ds} {x} {xs} f c) =
         let n = x .periods in
         let b = x .bucket in
-        let range : FreshRange b (t .factor) = record { bucket = served-range f .bucket; factor = h .factor } in
+        let range : FreshRange b (t .factor) = record { bucket = served-range t h f .bucket; factor = h .factor } in
         let m = run-metered b (t .factor) range (take n ds) (demands-take n ds d) (omega (arith, length-take n ds)) in
         let rest = carried-meters (demands-drop n ds d) (omega (arith, length-drop n ds)) c in
         let over = carried-over (b .rate .0) (b .depth .0) (startOf (t .factor .p) (t .factor .q) (b .depth .0)) (take n ds) (f .fits .carried) in

@@ -26,127 +26,12 @@ use Rattle.plan_file.specs.declared.plans.PlanFigures.{PlanFigures}
 use Rattle.plan_file.specs.Plan.{Recorded, readPlan, writePlan, figuresOf, bucketsOf, recordsOf}
 use Rattle.plan_file.specs.PlanLaws.{write-read, lists-hold}
 use Rattle.plan_file.specs.PlanRules.{CountsRange, WriteRules, write-rules, length-records}
-use Rattle.booking.specs.declared.calls.PlannedOrder.{PlannedOrder}
-use Rattle.booking.specs.declared.calls.PlannedAnswer.{PlannedAnswer}
-use Rattle.booking.specs.declared.calls.PlannedAnswer.the-variants.{Found, Refused}
+use Rattle.planning.specs.declared.orders.PlannedOrder.{PlannedOrder}
+use Rattle.planning.specs.Planning.{RecordLists, Planned, PlansOrder, lists, roomIn, withRecords, plannedFigures, spreadFrom, cuttingOf}
+use Rattle.planning.specs.CallLaws.{Filled, fills-front, front-count, lists-are, found-plan, trace-is, plan-is}
 use Rattle.booking.specs.declared.calls.Booking.{Booking}
 use Rattle.booking.specs.declared.metering.MeterTotals.{MeterTotals}
-use Rattle.booking.specs.Booking.{RecordLists, Lent, Planned, Recording, lists, lent, roomIn, withRecords, planned, plannedRuns, plannedFor, written, readBack, metersOf, totalsOf, recording, recordingFor, planFigures, booked, bookingOf, answerOf}
-use Rattle.booking.specs.BookingLaws.{IsPlanned, is-planned, planned-count}
-
--- What fills the front of a list, read off it: as many entries as there are.
-module _ (a : Answer (List ℕ)) (old new : List ℕ) (n : ℕ) (e : figures n ≡ onFigures length a) (f : new ≡ filled a old) where
-  entries : (xs : List ℕ) × (a ≡ figures xs) × (length xs ≡ n)
-  entries = on-figures length a (sym e)
-
-  front-is : take n new ≡ entries .0
-  front-is =
-      ap (take n) (f ∙ ap (λ (b : Answer (List ℕ)). filled b old) (entries .1))
-      ∙ ap (λ (m : ℕ). take m (filled (figures (entries .0)) old)) (sym (entries .2))
-      ∙ filled-front (entries .0) old
-
-  pub fills-front : a ≡ figures (take n new)
-  fills-front = entries .1 ∙ ap figures (sym front-is)
-
-  pub front-count : length (take n new) ≡ n
-  front-count = ap length front-is ∙ entries .2
-
-  pub front-inside : n ≤ length new
-  front-inside = omega (arith, length-take n new, front-count)
-
--- Three lists that an answer has filled.
-abbrev pub Filled : Answer Cutting → RecordLists → RecordLists → Type 0
-Filled a old new = Lists (old .runs) (old .rates) (old .depths) (new .runs) (new .rates) (new .depths) a
-
-lists-are : (a : Answer Cutting) (old : RecordLists) (xs ys zs : List ℕ) → Filled a old (lists xs ys zs) → lists xs ys zs ≡ withRecords a old
-lists-are a old xs ys zs e = rw (e .0, e .1 .0, e .1 .1)
-
--- ---- Planning
-
--- Each case of the answer in document 01's values and numbers.
-abbrev pub plannedSays : PlannedAnswer → Answer PlannedOrder
-plannedSays (Found x) = figures x
-plannedSays (Refused x) = refused (numberOf x)
-
--- The figures that are answered.
-abbrev pub plannedFigures : Planned → PlannedOrder
-plannedFigures x = record { order = x .order; plan = record { buckets = length (x .cutting); cost = trueCost (x .order .tariff) (x .cutting) } }
-
--- The plan found with what the order says.
-abbrev pub withOrder : Order → Plan → PlannedOrder
-withOrder o x = record { order = o; plan = x }
-
--- The order is read and its trace spread.
-abbrev pub spreadFrom : ℕ → List ℕ → Answer (List ℕ)
-spreadFrom space bs = andThen (readOrder bs) (λ o. spreadOf space (tracePart bs))
-
-abbrev pub cuttingOf : Answer Planned → Answer Cutting
-cuttingOf = onFigures (λ x. x .cutting)
-
--- What planning answers, and what the list of demands and the lists of records then hold.
-pub record PlansOrder (bs demands : List ℕ) (plan : RecordLists) (demands′ : List ℕ) (plan′ : RecordLists) (answer : Answer PlannedOrder) : Type 0 where
-  pub answers : answer ≡ onFigures plannedFigures (planned (length demands) (roomIn plan) bs)
-  pub spreads : demands′ ≡ filled (spreadFrom (length demands) bs) demands
-  pub records : plan′ ≡ withRecords (cuttingOf (planned (length demands) (roomIn plan) bs)) plan
-
-module _ (bs demands : List ℕ) (plan : RecordLists) where
-  abbrev these : Answer Planned
-  these = planned (length demands) (roomIn plan) bs
-
-  no-plan : (demands′ : List ℕ) (n : ℕ) → these ≡ refused n → demands′ ≡ filled (spreadFrom (length demands) bs) demands → PlansOrder bs demands plan demands′ plan (refused n)
-  no-plan demands′ n e d =
-      record { answers = sym (ap (onFigures plannedFigures) e); spreads = d; records = sym (ap (λ (a : Answer Planned). withRecords (cuttingOf a) plan) e) }
-
-  pub order-refused : (n : ℕ) → readOrder bs ≡ refused n → PlansOrder bs demands plan demands plan (refused n)
-  order-refused n e = no-plan demands n (sym (then-refused _ _ e)) (ap (λ (a : Answer (List ℕ)). filled a demands) (then-refused _ _ e))
-
-  module _ (o : Order) (e : readOrder bs ≡ figures o) (part : List ℕ) (p : part ≡ tracePart bs) where
-    abbrev spreading : Answer (List ℕ)
-    spreading = spreadOf (length demands) part
-
-    part-spread : spreading ≡ spreadFrom (length demands) bs
-    part-spread = ap (spreadOf (length demands)) p ∙ then-figures _ _ e
-
-    abbrev onward : Answer (List ℕ) → Answer Planned
-    onward a = andThen a (λ ds. plannedRuns o ds (roomIn plan))
-
-    these-are : onward spreading ≡ these
-    these-are = ap (λ (ys : List ℕ). onward (spreadOf (length demands) ys)) p ∙ then-figures _ _ e
-
-    module _ (demands′ : List ℕ) (d : demands′ ≡ filled spreading demands) where
-      spreads-so : demands′ ≡ filled (spreadFrom (length demands) bs) demands
-      spreads-so = d ∙ ap (λ (a : Answer (List ℕ)). filled a demands) part-spread
-
-      pub spread-refused : (n : ℕ) → refused n ≡ onFigures length spreading → PlansOrder bs demands plan demands′ plan (refused n)
-      spread-refused n f = no-plan demands′ n (sym these-are ∙ ap onward (on-refused length spreading (sym f))) spreads-so
-
-      module _ (n : ℕ) (f : figures n ≡ onFigures length spreading) where
-        -- the series for the numbers spread
-        abbrev found : Answer Cutting
-        found = seriesOf (o .tariff) (roomIn plan) (take n demands′)
-
-        runs-planned : these ≡ onFigures (λ xs. record { order = o; demands = take n demands′; cutting = xs }) found
-        runs-planned =
-            sym these-are
-            ∙ ap onward (fills-front spreading demands demands′ n f d)
-
-        plan-answers : (a : Answer Cutting)
-            → onFigures (withOrder o) (series.planOf (o .tariff) a) ≡ onFigures plannedFigures (onFigures (λ xs. record { order = o; demands = take n demands′; cutting = xs }) a)
-        plan-answers (figures xs) = refl
-        plan-answers (refused m) = refl
-
-        cutting-is : (a : Answer Cutting) → a ≡ cuttingOf (onFigures (λ xs. record { order = o; demands = take n demands′; cutting = xs }) a)
-        cutting-is (figures xs) = refl
-        cutting-is (refused m) = refl
-
-        pub series-planned : (runs rates depths : List ℕ) (r : Answer Plan) → r ≡ series.planOf (o .tariff) found → Filled found plan (lists runs rates depths)
-            → (answer : Answer PlannedOrder) → answer ≡ onFigures (withOrder o) r → PlansOrder bs demands plan demands′ (lists runs rates depths) answer
-        series-planned runs rates depths r g k answer h =
-            record {
-              answers = h ∙ ap (onFigures (withOrder o)) g ∙ plan-answers found ∙ ap (onFigures plannedFigures) (sym runs-planned);
-              spreads = spreads-so;
-              records = lists-are found plan runs rates depths k ∙ ap (λ (a : Answer Cutting). withRecords a plan) (cutting-is found ∙ ap cuttingOf (sym runs-planned));
-            }
+use Rattle.booking.specs.Booking.{Lent, Recording, lent, plannedFor, written, readBack, metersOf, totalsOf, recording, recordingFor, planFigures, booked, bookingOf, answerOf}
 
 -- ---- Recording
 
@@ -322,35 +207,11 @@ module _ (bs : List ℕ) (old : Lent) (demands′ : List ℕ) (plan′ : RecordL
       }
 
   module _ (y : PlannedOrder) (f : found ≡ figures y) where
-    found-plan : (x : Planned) × (plannedFor old bs ≡ figures x) × (plannedFigures x ≡ y)
-    found-plan = on-figures plannedFigures (plannedFor old bs) (sym (p .answers) ∙ f)
+    abbrev found-here : (x : Planned) × (plannedFor old bs ≡ figures x) × (plannedFigures x ≡ y)
+    found-here = found-plan bs (old .demands) (old .plan) demands′ plan′ found p y f
 
     abbrev x : Planned
-    x = found-plan .0
-
-    is : IsPlanned old bs x
-    is = is-planned old bs x (found-plan .1)
-
-    periods-is : y .order .periods ≡ length (x .demands)
-    periods-is =
-        ap (λ (z : PlannedOrder). z .order .periods) (sym (found-plan .2))
-        ∙ sym (planned-count old bs x is)
-
-    -- the T numbers spread
-    trace-is : take (y .order .periods) demands′ ≡ x .demands
-    trace-is =
-        ap (λ (n : ℕ). take n demands′) periods-is
-        ∙ ap (take (length (x .demands))) (p .spreads ∙ ap (λ (a : Answer (List ℕ)). filled a (old .demands)) (sym (then-figures _ _ (is .read)) ∙ is .spread))
-        ∙ filled-front (x .demands) (old .demands)
-
-    pub trace-count : length (take (y .order .periods) demands′) ≡ y .order .periods
-    trace-count = ap length trace-is ∙ sym periods-is
-
-    pub trace-inside : y .order .periods ≤ length demands′
-    trace-inside = omega (arith, trace-count, length-take (y .order .periods) demands′)
-
-    plan-is : plan′ ≡ withRecords (figures (x .cutting)) (old .plan)
-    plan-is = p .records ∙ ap (λ (a : Answer Planned). withRecords (cuttingOf a) (old .plan)) (found-plan .1)
+    x = found-here .0
 
     answers-so : (a : Answer Recording) → onFigures bookingOf a ≡ onFigures answerOf (onFigures (λ z. record { planning = x; recording = z }) a)
     answers-so (figures z) = refl
@@ -364,13 +225,13 @@ module _ (bs : List ℕ) (old : Lent) (demands′ : List ℕ) (plan′ : RecordL
         → RecordsPlan (record { periods = y .order .periods; buckets = y .plan .buckets; cost = y .plan .cost }) (y .order .tariff .factor) (take (y .order .periods) demands′) plan′ (old .bytes) (old .back) bytes′ back′ answer
         → Called bs old (lent demands′ plan′ bytes′ back′) answer
     plan-recorded bytes′ back′ answer r =
-        let a = subst (λ (ds : List ℕ). Recorded-by y ds plan′ bytes′ back′ answer) trace-is r in
-        let b = subst (λ (l : RecordLists). Recorded-by y (x .demands) l bytes′ back′ answer) plan-is a in
-        let c = subst (λ (z : PlannedOrder). Recorded-by z (x .demands) (withRecords (figures (x .cutting)) (old .plan)) bytes′ back′ answer) (sym (found-plan .2)) b in
+        let a = subst (λ (ds : List ℕ). Recorded-by y ds plan′ bytes′ back′ answer) (trace-is bs (old .demands) (old .plan) demands′ plan′ found p y f) r in
+        let b = subst (λ (l : RecordLists). Recorded-by y (x .demands) l bytes′ back′ answer) (plan-is bs (old .demands) (old .plan) demands′ plan′ found p y f) a in
+        let c = subst (λ (z : PlannedOrder). Recorded-by z (x .demands) (withRecords (figures (x .cutting)) (old .plan)) bytes′ back′ answer) (sym (found-here .2)) b in
         record {
-          answers = c .answers ∙ answers-so (recordingFor old x) ∙ ap (onFigures answerOf) (then-figures (plannedFor old bs) _ (found-plan .1));
+          answers = c .answers ∙ answers-so (recordingFor old x) ∙ ap (onFigures answerOf) (then-figures (plannedFor old bs) _ (found-here .1));
           spreads = p .spreads;
           records = p .records;
-          writes = c .writes ∙ ap (λ (d : Answer (List ℕ)). filled d (old .bytes)) (then-figures (plannedFor old bs) (writtenFor old) (found-plan .1));
-          reads = c .reads ∙ ap (λ (d : Answer Cutting). withRecords d (old .back)) (then-figures (plannedFor old bs) (readFor old) (found-plan .1));
+          writes = c .writes ∙ ap (λ (d : Answer (List ℕ)). filled d (old .bytes)) (then-figures (plannedFor old bs) (writtenFor old) (found-here .1));
+          reads = c .reads ∙ ap (λ (d : Answer Cutting). withRecords d (old .back)) (then-figures (plannedFor old bs) (readFor old) (found-here .1));
         }

@@ -16,7 +16,8 @@ use Rattle.order_file.specs.Order.{traceOffset, tariffIn, readOrder}
 use Rattle.order_file.specs.OrderRules.{OrderRules, orderIn}
 use Rattle.plan_file.specs.Plan.{planIn, planLength, recordsOf}
 use Rattle.booking.specs.declared.calls.Booking.{Booking}
-use Rattle.booking.specs.Booking.{Lent, roomIn, Steps, metersOf, booked, answerOf, lentAfter}
+use Rattle.planning.specs.Planning.{roomIn}
+use Rattle.booking.specs.Booking.{Lent, Steps, metersOf, booked, answerOf, lentAfter}
 
 -- ---- What the sentences speak of, in the bytes of an order file
 

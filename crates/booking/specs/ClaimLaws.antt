@@ -25,8 +25,10 @@ use Rattle.order_file.specs.OrderRules.{OrderRules, orderIn, rules-read, read-r
 use Rattle.plan_file.specs.Plan.{Recorded, fitting, planIn, recordsOf}
 use Rattle.plan_file.specs.PlanLaws.{lists-hold}
 use Rattle.booking.specs.declared.calls.Booking.{Booking}
-use Rattle.booking.specs.Booking.{RecordLists, Lent, Planned, Steps, lent, lists, roomIn, plannedFor, plannedRuns, booked, answerOf, lentAfter}
-use Rattle.booking.specs.BookingLaws.{IsPlanned, is-planned, order-demands, planned-series}
+use Rattle.planning.specs.Planning.{RecordLists, Planned, lists, roomIn, plannedRuns}
+use Rattle.planning.specs.PlannedLaws.{IsPlanned, is-planned}
+use Rattle.booking.specs.Booking.{Lent, Steps, lent, plannedFor, booked, answerOf, lentAfter}
+use Rattle.booking.specs.BookingLaws.{order-demands, planned-series}
 use Rattle.booking.specs.Claim.{periodsIn, demandsAt, CarriedIn, SeriesAnswer, LongEnough, InsideCaps, Kept, Demand3, Claim}
 use Rattle.booking.specs.StepLaws.{fileOf, recordingOf, file-fits, file-read, planned-meters, steps-figures, figures-left, refused-left}
 use Rattle.booking.specs.CallLaws.{Called, writtenFor}
@@ -106,11 +108,11 @@ module _ (bs : List ℕ) (h : Bytes bs) (old after : Lent) (answer : Answer Book
       planned-is : plannedFor old bs ≡ figures x
       planned-is = planned-so ∙ ap (onFigures (λ ys. record { order = orderIn bs; demands = ds; cutting = ys })) s
 
-      is : IsPlanned old bs x
-      is = is-planned old bs x planned-is
+      is : IsPlanned (length (old .demands)) (roomIn (old .plan)) bs x
+      is = is-planned (length (old .demands)) (roomIn (old .plan)) bs x planned-is
 
       is-answer : SeriesAnswer bs xs
-      is-answer = planned-series old bs x is
+      is-answer = planned-series is
 
       abbrev file : List ℕ
       file = fileOf old x

@@ -32,9 +32,11 @@ use Rattle.plan_file.specs.PlanLaws.{write-read, lists-hold}
 use Rattle.plan_file.specs.PlanRules.{counts-ok, write-figures}
 use Rattle.plan_file.specs.RecordLaws.{RecordsRange, records-ok}
 use Rattle.booking.specs.declared.calls.Booking.{Booking}
-use Rattle.booking.specs.Booking.{RecordLists, Lent, Planned, Recording, Steps, lent, lists, roomIn, withRecords, plannedFor, planFigures, readBack, metersOf, recordingFor, booked, lentAfter}
-use Rattle.booking.specs.BookingLaws.{IsPlanned, is-planned, PlanRange, NothingOver, carried-plan, carried-meters, file-demands, planned-count, planned-cheapest, planned-demands, planned-range}
-use Rattle.booking.specs.CallLaws.{Called, cuttingOf, spreadFrom, writtenFor, readFor, room-kept}
+use Rattle.planning.specs.Planning.{RecordLists, Planned, lists, roomIn, withRecords, spreadFrom, cuttingOf}
+use Rattle.planning.specs.PlannedLaws.{IsPlanned, is-planned, planned-count, planned-cheapest, planned-range}
+use Rattle.booking.specs.Booking.{Lent, Recording, Steps, lent, plannedFor, planFigures, readBack, metersOf, recordingFor, booked, lentAfter}
+use Rattle.booking.specs.BookingLaws.{PlanRange, NothingOver, carried-plan, carried-meters, file-demands, planned-demands}
+use Rattle.booking.specs.CallLaws.{Called, writtenFor, readFor, room-kept}
 use Rattle.booking.specs.FrontLaws.{Front, FrontOnly, frontLength, filled-front-only, put-back, restored}
 
 -- The bytes of the plan found, from the records that planning has put at the front of its lists.
@@ -43,7 +45,7 @@ fileOf old x =
     let l = withRecords (figures (x .cutting)) (old .plan) in
     planBytes (x .order .periods) (trueCost (x .order .tariff) (x .cutting)) (recordsOf (length (x .cutting)) (l .runs) (l .rates) (l .depths))
 
-module _ (bs : List ℕ) (h : Bytes bs) (old : Lent) (x : Planned) (is : IsPlanned old bs x) where
+module _ (bs : List ℕ) (h : Bytes bs) (old : Lent) (x : Planned) (is : IsPlanned (length (old .demands)) (roomIn (old .plan)) bs x) where
   abbrev t : Tariff
   t = x .order .tariff
 
@@ -55,19 +57,19 @@ module _ (bs : List ℕ) (h : Bytes bs) (old : Lent) (x : Planned) (is : IsPlann
   l = withRecords (figures cutting) (old .plan)
 
   count : length (x .demands) ≡ x .order .periods
-  count = planned-count old bs x is
+  count = planned-count is
 
   ranges : PlanRange t (length (x .demands)) cutting
   ranges =
-      let r = planned-range old bs x is in
-      carried-plan t (r .1) (r .0) (planned-cheapest old bs x is .carried)
+      let r = planned-range is in
+      carried-plan t (r .1) (r .0) (planned-cheapest is .carried)
 
   -- each run's meter takes its offers and discards nothing
   pub planned-meters : NothingOver t (x .demands) cutting
   planned-meters =
-      let r = planned-range old bs x is in
-      let d = subst Demands (sym (planned-demands old bs x is)) (file-demands bs h) in
-      carried-meters t (r .1) d (r .0 .few) (planned-cheapest old bs x is .carried)
+      let r = planned-range is in
+      let d = subst Demands (sym (planned-demands is)) (file-demands bs h) in
+      carried-meters t (r .1) d (r .0 .few) (planned-cheapest is .carried)
 
   held : recordsOf (length cutting) (l .runs) (l .rates) (l .depths) ≡ cutting
   held = lists-hold cutting (old .plan .runs) (old .plan .rates) (old .plan .depths)
@@ -114,7 +116,7 @@ module _ (bs : List ℕ) (h : Bytes bs) (old : Lent) (x : Planned) (is : IsPlann
 
 module _ (bs : List ℕ) (h : Bytes bs) (old : Lent) where
   -- Where a plan is found and written the list ends with figures.
-  pub steps-figures : (x : Planned) (is : IsPlanned old bs x) → plannedFor old bs ≡ figures x
+  pub steps-figures : (x : Planned) (is : IsPlanned (length (old .demands)) (roomIn (old .plan)) bs x) → plannedFor old bs ≡ figures x
       → (file : List ℕ) → writtenFor old x ≡ figures file → booked old bs ≡ figures (record { planning = x; recording = recordingOf bs h old x is file })
   steps-figures x is e file w =
       sym (then-figures (plannedFor old bs) (λ x. onFigures (λ y. record { planning = x; recording = y }) (recordingFor old x)) e)
@@ -135,7 +137,7 @@ module _ (bs : List ℕ) (h : Bytes bs) (old : Lent) where
         where
           writing : (b : Answer (List ℕ)) → writtenFor old x ≡ b → NotWritten
           writing (figures file) w =
-              let is = is-planned old bs x e in
+              let is = is-planned (length (old .demands)) (roomIn (old .plan)) bs x e in
               absurd (figures-refused (sym (steps-figures x is e file w) ∙ r))
           writing (refused m) w =
               record {
@@ -176,9 +178,9 @@ spread-short bs o e space ds f =
 
 planned-short : (bs : List ℕ) (old : Lent) (x : Planned) → plannedFor old bs ≡ figures x → (length (x .cutting) ≤ roomIn (old .plan)) × (length (x .cutting) ≤ traceLimit)
 planned-short bs old x e =
-    let is = is-planned old bs x e in
-    let n = carried-count (x .order .tariff) (planned-cheapest old bs x is .carried) in
-    let p = planned-range old bs x is .0 in
+    let is = is-planned (length (old .demands)) (roomIn (old .plan)) bs x e in
+    let n = carried-count (x .order .tariff) (planned-cheapest is .carried) in
+    let p = planned-range is .0 in
     (omega (arith, n, series-room (x .order .tariff) (x .demands) (roomIn (old .plan)) (x .cutting) (is .series)), omega (arith, n, p .few))
 
 lent-by : {a a′ : List ℕ} {b b′ : RecordLists} {c c′ : List ℕ} {d d′ : RecordLists} → a ≡ a′ → b ≡ b′ → c ≡ c′ → d ≡ d′ → lent a b c d ≡ lent a′ b′ c′ d′
@@ -189,7 +191,7 @@ module _ (bs : List ℕ) (old : Lent) (demands : List ℕ) (plan : RecordLists) 
   pub figures-left : (s : Steps) → booked old bs ≡ figures s → lent demands plan bytes back ≡ lentAfter (booked old bs) old
   figures-left s e =
       let f = steps-found bs old s e in
-      let p = is-planned old bs (s .planning) (f .is-plan) in
+      let p = is-planned (length (old .demands)) (roomIn (old .plan)) bs (s .planning) (f .is-plan) in
       let read = sym (then-figures (plannedFor old bs) (readFor old) (f .is-plan)) ∙ sym (then-figures (writtenFor old (s .planning)) _ (f .is-written)) ∙ ap bucketsOf (f .is-read) in
       lent-by
       (c .spreads ∙ ap (λ (a : Answer (List ℕ)). filled a (old .demands)) (sym (then-figures _ _ (p .read)) ∙ p .spread))

@@ -5,7 +5,8 @@ use crate::fronts::keep;
 use crate::fronts::keep_demands;
 use crate::fronts::put_back;
 use crate::fronts::put_back_demands;
-ghost use Rattle.booking.specs.Booking.{bookingSays, lent, lists};
+ghost use Rattle.planning.specs.Planning.{lists};
+ghost use Rattle.booking.specs.Booking.{bookingSays, lent};
 ghost use Rattle.booking.specs.Claim.{Claim};
 
 // Books an order: reads it, spreads its trace into the demands, plans the series into the runs,

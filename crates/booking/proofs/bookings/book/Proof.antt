@@ -2,7 +2,8 @@
 use native.Mathlib.Omega.{arith}
 use mathlib.Core.Path.{sym, ap}
 use Rattle.encoding.specs.NumberLaws.{Bytes}
-use Rattle.booking.specs.Booking.{Lent, bookingSays, lent, lists}
+use Rattle.planning.specs.Planning.{lists}
+use Rattle.booking.specs.Booking.{Lent, bookingSays, lent}
 use Rattle.booking.specs.ClaimLaws.{booked-claim, refused-claim}
 use borrow.Author.Needs.{needs}
 use borrow.Author.Needs.{needs}

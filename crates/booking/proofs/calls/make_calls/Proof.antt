@@ -1,7 +1,9 @@
 -- The plan is recorded as planning left it; a refusal to plan ends the list.
 use mathlib.Core.Path.{sym, ap}
-use Rattle.booking.specs.Booking.{Lent, lent, lists}
-use Rattle.booking.specs.CallLaws.{plannedSays, planning-refused, trace-count, trace-inside, plan-recorded}
+use Rattle.planning.specs.Planning.{lists, plannedSays}
+use Rattle.planning.specs.CallLaws.{trace-count, trace-inside}
+use Rattle.booking.specs.Booking.{Lent, lent}
+use Rattle.booking.specs.CallLaws.{planning-refused, plan-recorded}
 use borrow.Author.Needs.{needs}
 use borrow.Author.Needs.{needs}
 use Rattle.booking.proofs.calls.make_calls.Statement.{statement}
@@ -54,17 +56,17 @@ cast-periods c = search needs
 slice-reshare-prefix-record-plan : tie.Need-slice-reshare-prefix-record-plan
 slice-reshare-prefix-record-plan c =
     let x = found-at c in
-    trace-inside _ (before (start-of (plan-at x))) _ _ _ (plan-at x .plan-order .ensures) _ (ap plannedSays (x .x .given .1))
+    trace-inside _ _ _ _ _ _ (plan-at x .plan-order .ensures) _ (ap plannedSays (x .x .given .1))
 
 slice-aggregate-record-plan : tie.Need-slice-aggregate-record-plan
 slice-aggregate-record-plan c =
     let x = found-at (c .before) in
-    sym (trace-count _ (before (start-of (plan-at x))) _ _ _ (plan-at x .plan-order .ensures) _ (ap plannedSays (x .x .given .1)))
+    sym (trace-count _ _ _ _ _ _ (plan-at x .plan-order .ensures) _ (ap plannedSays (x .x .given .1)))
 
 record-plan-requires : tie.Need-record-plan-requires
 record-plan-requires c κs =
     let x = found-at (c .before .before .before .before .before .before .before .before) in
-    sym (trace-count _ (before (start-of (plan-at x))) _ _ _ (plan-at x .plan-order .ensures) _ (ap plannedSays (x .x .given .1)))
+    sym (trace-count _ _ _ _ _ _ (plan-at x .plan-order .ensures) _ (ap plannedSays (x .x .given .1)))
 
 same-length-5 : tie.Need-same-length-5
 same-length-5 c =

@@ -12,8 +12,9 @@ use Rattle.terms.specs.Answer.{Answer, figures, onFigures}
 use Rattle.terms.specs.LentLaws.{room-each}
 use Rattle.encoding.specs.Fill.{fillSays}
 use Rattle.plan_file.specs.Plan.{planSays, writePlan}
-use Rattle.booking.specs.Booking.{RecordLists, lists, roomIn}
-use Rattle.booking.specs.CallLaws.{front-inside, no-room, write-refused, read-taken, back-ready, plan-metered}
+use Rattle.planning.specs.Planning.{RecordLists, lists, roomIn}
+use Rattle.planning.specs.CallLaws.{front-inside}
+use Rattle.booking.specs.CallLaws.{no-room, write-refused, read-taken, back-ready, plan-metered}
 use borrow.Author.Needs.{needs}
 use borrow.Author.Needs.{needs}
 use Rattle.booking.proofs.calls.record_plan.Statement.{statement}

@@ -8,12 +8,12 @@ use lib.Seq.{length-take-le}
 use Rattle.terms.specs.Answer.{Answer, figures, onFigures}
 use Rattle.encoding.specs.Fill.{fillSays}
 use Rattle.order_file.specs.Order.{orderSays, readOrder, spreadOf}
-use Rattle.booking.specs.Booking.{RecordLists, lists}
-use Rattle.booking.specs.CallLaws.{front-inside, order-refused, spread-refused, series-planned}
+use Rattle.planning.specs.Planning.{RecordLists, lists}
+use Rattle.planning.specs.CallLaws.{front-inside, order-refused, spread-refused, series-planned}
 use borrow.Author.Needs.{needs}
 use borrow.Author.Needs.{needs}
-use Rattle.booking.proofs.calls.plan_order.Statement.{statement}
-use Rattle.booking.proofs.calls.plan_order.Tie as tie
+use Rattle.planning.proofs.orders.plan_order.Statement.{statement}
+use Rattle.planning.proofs.orders.plan_order.Tie as tie
 
 abbrev start-at : tie.After-x → tie.Start
 start-at c = c .before .before .before .before .before .before .before .before

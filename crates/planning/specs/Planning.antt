@@ -1,0 +1,76 @@
+-- From an order file to the series planned for it, on what is lent (01, "Series": the first calls of demand 3).
+-- Assumes nothing.
+use Prim.Native.Nat.{ℕ}
+use mathlib.Core.Path.{_≡_}
+use mathlib.Core.List.{List}
+use lib.ListN.{length}
+use Rattle.terms.specs.Answer.{Answer, figures, refused, onFigures, andThen}
+use Rattle.terms.specs.Lent.{filled, recorded, roomOf}
+use Rattle.terms.specs.Records.{Cutting, runLength, runRate, runDepth}
+use Rattle.terms.specs.Refusals.{numberOf}
+use Rattle.series.specs.Series.{trueCost, seriesOf}
+use Rattle.order_file.specs.declared.orders.Order.{Order}
+use Rattle.order_file.specs.Order.{readOrder, tracePart, spreadOf}
+use Rattle.planning.specs.declared.orders.PlannedOrder.{PlannedOrder}
+use Rattle.planning.specs.declared.orders.PlannedAnswer.{PlannedAnswer}
+use Rattle.planning.specs.declared.orders.PlannedAnswer.the-variants.{Found, Refused}
+
+-- ---- What is lent for bucket records
+
+-- Three lists lent for bucket records.
+pub record RecordLists : Type 0 where
+  pub runs : List ℕ
+  pub rates : List ℕ
+  pub depths : List ℕ
+
+-- The same by their parts, for contracts.
+abbrev pub lists : List ℕ → List ℕ → List ℕ → RecordLists
+lists xs ys zs = record { runs = xs; rates = ys; depths = zs }
+
+-- The entries of the shortest of three lists.
+abbrev pub roomIn : RecordLists → ℕ
+roomIn l = roomOf (l .runs) (l .rates) (l .depths)
+
+-- Lists with the records of an answer at their front; on a refusal they are as they were.
+abbrev pub withRecords : Answer Cutting → RecordLists → RecordLists
+withRecords a old = record { runs = recorded runLength a (old .runs); rates = recorded runRate a (old .rates); depths = recorded runDepth a (old .depths) }
+
+-- ---- Planning
+
+-- What the calls up to planning give.
+pub record Planned : Type 0 where
+  pub order : Order
+  pub demands : List ℕ
+  pub cutting : Cutting
+
+-- The series is planned with the tariff read and the T numbers spread, with `room` entries to plan into.
+abbrev pub plannedRuns : Order → List ℕ → ℕ → Answer Planned
+plannedRuns o ds room = onFigures (λ xs. record { order = o; demands = ds; cutting = xs }) (seriesOf (o .tariff) room ds)
+
+-- The order is read; its trace part is handed back and spread, into `space` entries; the series is planned.
+abbrev pub planned : ℕ → ℕ → List ℕ → Answer Planned
+planned space room bs = andThen (readOrder bs) (λ o. andThen (spreadOf space (tracePart bs)) (λ ds. plannedRuns o ds room))
+
+-- ---- What is answered and left
+
+-- Each case of the answer in document 01's values and numbers.
+abbrev pub plannedSays : PlannedAnswer → Answer PlannedOrder
+plannedSays (Found x) = figures x
+plannedSays (Refused x) = refused (numberOf x)
+
+-- The figures that are answered.
+abbrev pub plannedFigures : Planned → PlannedOrder
+plannedFigures x = record { order = x .order; plan = record { buckets = length (x .cutting); cost = trueCost (x .order .tariff) (x .cutting) } }
+
+-- The order is read and its trace spread.
+abbrev pub spreadFrom : ℕ → List ℕ → Answer (List ℕ)
+spreadFrom space bs = andThen (readOrder bs) (λ o. spreadOf space (tracePart bs))
+
+abbrev pub cuttingOf : Answer Planned → Answer Cutting
+cuttingOf = onFigures (λ x. x .cutting)
+
+-- What planning answers, and what the list of demands and the lists of records then hold.
+pub record PlansOrder (bs demands : List ℕ) (plan : RecordLists) (demands′ : List ℕ) (plan′ : RecordLists) (answer : Answer PlannedOrder) : Type 0 where
+  pub answers : answer ≡ onFigures plannedFigures (planned (length demands) (roomIn plan) bs)
+  pub spreads : demands′ ≡ filled (spreadFrom (length demands) bs) demands
+  pub records : plan′ ≡ withRecords (cuttingOf (planned (length demands) (roomIn plan) bs)) plan

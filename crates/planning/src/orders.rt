@@ -1,0 +1,65 @@
+// The calls up to planning, on what a caller lends. Public only for the crates above: after a refusal
+// to plan the demands stay spread.
+use encoding::FillAnswer;
+use order_file::Order;
+use order_file::OrderAnswer;
+use order_file::read_order;
+use order_file::spread;
+use order_file::trace_part;
+use series::Plan;
+use series::SeriesAnswer;
+use series::series;
+use terms::Refusal;
+ghost use mathlib.Core.Path.{_≡_};
+ghost use Rattle.terms.specs.Answer.{onFigures};
+ghost use Rattle.series.specs.Series.{seriesSays};
+ghost use Rattle.planning.specs.Planning.{PlansOrder, lists, plannedSays};
+ghost use Rattle.planning.specs.CallLaws.{withOrder};
+
+// What an order says and the plan found for it.
+pub struct PlannedOrder {
+    pub order: Order,
+    pub plan: Plan,
+}
+
+pub enum PlannedAnswer {
+    Found(PlannedOrder),
+    Refused(Refusal),
+}
+
+// Reads the order, spreads its trace's part into the demands, and plans the series with the tariff
+// read and the numbers so spread. After a refusal to plan the demands stay spread.
+pub fn plan_order(
+    order: &[u8],
+    demands: &mut [u16],
+    runs: &mut [u32],
+    rates: &mut [u32],
+    depths: &mut [u32],
+) -> PlannedAnswer
+    ensures { λ r. ⌜ PlansOrder (now (order .entry))
+        (now (demands .entry)) (lists (now (runs .entry)) (now (rates .entry)) (now (depths .entry)))
+        (now (demands .exit)) (lists (now (runs .exit)) (now (rates .exit)) (now (depths .exit)))
+        (plannedSays r) ⌝ }
+{
+    let found = match read_order(order) {
+        OrderAnswer::Read(x) => x,
+        OrderAnswer::Refused(why) => return PlannedAnswer::Refused(why),
+    };
+    let periods = match spread(trace_part(order), demands) {
+        FillAnswer::Filled(n) => n,
+        FillAnswer::Refused(why) => return PlannedAnswer::Refused(why),
+    };
+    let tariff = found.tariff;
+    let plan = series(&demands[..periods], tariff, runs, rates, depths);
+    with_order(found, plan)
+}
+
+// The plan found with what the order says, or the refusal.
+fn with_order(order: Order, answer: SeriesAnswer) -> PlannedAnswer
+    ensures { λ r. ⌜ plannedSays r ≡ onFigures (withOrder order) (seriesSays answer) ⌝ }
+{
+    match answer {
+        SeriesAnswer::Found(plan) => PlannedAnswer::Found(PlannedOrder { order, plan }),
+        SeriesAnswer::Refused(why) => PlannedAnswer::Refused(why),
+    }
+}
