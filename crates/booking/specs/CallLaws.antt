@@ -28,7 +28,7 @@ use Rattle.plan_file.specs.PlanLaws.{write-read, lists-hold}
 use Rattle.plan_file.specs.PlanRules.{CountsRange, WriteRules, write-rules, length-records}
 use Rattle.planning.specs.declared.orders.PlannedOrder.{PlannedOrder}
 use Rattle.planning.specs.Planning.{RecordLists, Planned, PlansOrder, lists, roomIn, withRecords, plannedFigures, spreadFrom, cuttingOf}
-use Rattle.planning.specs.CallLaws.{Filled, fills-front, front-count, lists-are, found-plan, trace-is, plan-is}
+use Rattle.planning.specs.CallLaws.{Filled, fills-front, front-count, lists-are, room-kept, found-plan, trace-is, plan-is}
 use Rattle.booking.specs.declared.calls.Booking.{Booking}
 use Rattle.booking.specs.declared.metering.MeterTotals.{MeterTotals}
 use Rattle.booking.specs.Booking.{Lent, Recording, lent, plannedFor, written, readBack, metersOf, totalsOf, recording, recordingFor, planFigures, booked, bookingOf, answerOf}
@@ -48,15 +48,6 @@ pub record RecordsPlan (x : PlanFigures) (f : Factor) (ds : List ℕ) (l : Recor
   pub answers : answer ≡ onFigures bookingOf (recording (roomIn back) (length bytes) x l f ds)
   pub writes : bytes′ ≡ filled (written (roomIn back) (length bytes) x l) bytes
   pub reads : back′ ≡ withRecords (readFrom (roomIn back) (length bytes) x l) back
-
--- Lists that have been filled have the room they had.
-pub room-kept : (xs : Cutting) (back : RecordLists) → length xs ≤ roomIn back → roomIn (withRecords (figures xs) back) ≡ roomIn back
-room-kept xs back l =
-    let r = rooms (length xs) (back .runs) (back .rates) (back .depths) l in
-    rw (kept runLength (back .runs) (r .first), kept runRate (back .rates) (r .second), kept runDepth (back .depths) (r .third))
-  where
-    kept : (figure : BucketRecord → ℕ) (old : List ℕ) → length xs ≤ length old → length (recorded figure (figures xs) old) ≡ length old
-    kept figure old m = length-append (map figure xs) _ ∙ omega (arith, length-map xs figure, length-drop (length (map figure xs)) old)
 
 module _ (x : PlanFigures) (f : Factor) (ds : List ℕ) (l : RecordLists) (bytes : List ℕ) (back : RecordLists) where
   abbrev file : Answer (List ℕ)

@@ -34,9 +34,10 @@ use Rattle.plan_file.specs.RecordLaws.{RecordsRange, records-ok}
 use Rattle.booking.specs.declared.calls.Booking.{Booking}
 use Rattle.planning.specs.Planning.{RecordLists, Planned, lists, roomIn, withRecords, spreadFrom, cuttingOf}
 use Rattle.planning.specs.PlannedLaws.{IsPlanned, is-planned, planned-count, planned-cheapest, planned-range}
+use Rattle.planning.specs.CallLaws.{room-kept}
 use Rattle.booking.specs.Booking.{Lent, Recording, Steps, lent, plannedFor, planFigures, readBack, metersOf, recordingFor, booked, lentAfter}
 use Rattle.booking.specs.BookingLaws.{PlanRange, NothingOver, carried-plan, carried-meters, file-demands, planned-demands}
-use Rattle.booking.specs.CallLaws.{Called, writtenFor, readFor, room-kept}
+use Rattle.booking.specs.CallLaws.{Called, writtenFor, readFor}
 use Rattle.booking.specs.FrontLaws.{Front, FrontOnly, frontLength, filled-front-only, put-back, restored}
 
 -- The bytes of the plan found, from the records that planning has put at the front of its lists.

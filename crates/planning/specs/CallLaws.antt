@@ -3,13 +3,14 @@
 use Prim.Native.Nat.{ℕ, _≤_}
 use native.Mathlib.Omega.{arith}
 use mathlib.Core.Path.{_≡_, refl, sym, ap, _∙_}
-use mathlib.Core.List.{List}
-use lib.ListN.{length, take, length-take}
+use mathlib.Core.List.{List, map}
+use lib.ListN.{length, take, length-append, length-drop, length-map, length-take}
+use Rattle.terms.specs.declared.BucketRecord.{BucketRecord}
 use Rattle.terms.specs.Answer.{Answer, figures, refused, onFigures, andThen}
 use Rattle.terms.specs.AnswerLaws.{on-figures, on-refused, then-figures, then-refused}
-use Rattle.terms.specs.Lent.{filled}
-use Rattle.terms.specs.LentLaws.{Lists, filled-front}
-use Rattle.terms.specs.Records.{Cutting}
+use Rattle.terms.specs.Lent.{filled, recorded}
+use Rattle.terms.specs.LentLaws.{Lists, rooms, filled-front}
+use Rattle.terms.specs.Records.{Cutting, runLength, runRate, runDepth}
 use Rattle.series.specs.declared.plans.Plan.{Plan}
 use Rattle.series.specs.Series.{seriesOf}
 use Rattle.series.specs.Series as series
@@ -45,6 +46,15 @@ Filled a old new = Lists (old .runs) (old .rates) (old .depths) (new .runs) (new
 
 pub lists-are : (a : Answer Cutting) (old : RecordLists) (xs ys zs : List ℕ) → Filled a old (lists xs ys zs) → lists xs ys zs ≡ withRecords a old
 lists-are a old xs ys zs e = rw (e .0, e .1 .0, e .1 .1)
+
+-- Lists that have been filled have the room they had.
+pub room-kept : (xs : Cutting) (back : RecordLists) → length xs ≤ roomIn back → roomIn (withRecords (figures xs) back) ≡ roomIn back
+room-kept xs back l =
+    let r = rooms (length xs) (back .runs) (back .rates) (back .depths) l in
+    rw (kept runLength (back .runs) (r .first), kept runRate (back .rates) (r .second), kept runDepth (back .depths) (r .third))
+  where
+    kept : (figure : BucketRecord → ℕ) (old : List ℕ) → length xs ≤ length old → length (recorded figure (figures xs) old) ≡ length old
+    kept figure old m = length-append (map figure xs) _ ∙ omega (arith, length-map xs figure, length-drop (length (map figure xs)) old)
 
 -- The plan found with what the order says.
 abbrev pub withOrder : Order → Plan → PlannedOrder

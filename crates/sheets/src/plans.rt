@@ -1,0 +1,45 @@
+// The sheet of a plan, from the lists that hold its demands and records. Public only for this crate's
+// calls, which show what is required.
+use crate::runs::put_runs;
+use planning::orders::PlannedOrder;
+use text::lines::put_plan_line;
+ghost use Prim.Native.Nat.{_≤_};
+ghost use mathlib.Core.Path.{_≡_};
+ghost use lib.ListN.{length};
+ghost use Rattle.text.specs.PutLaws.{Puts};
+ghost use Rattle.sheets.specs.SheetLaws.{Shown, longestSheet, shownText};
+
+// The bytes of the longest sheet: 29 for its first line and 32 for each of 512 buckets.
+pub const LONGEST_SHEET: usize = 16_413;
+
+// Stores a plan's sheet at the front of a text.
+pub fn put_sheet(
+    text: &mut [u8],
+    found: PlannedOrder,
+    demands: &[u16],
+    runs: &[u32],
+    rates: &[u32],
+    depths: &[u32],
+) -> usize
+    requires { ⌜ Shown found (now demands) (now runs) (now rates) (now depths) ⌝ }
+    requires { ⌜ length (now text) ≡ longestSheet ⌝ }
+    ensures { λ r. ⌜ Puts (now (text .entry)) 0
+        (shownText found (now (demands .entry)) (now (runs .entry)) (now (rates .entry)) (now (depths .entry)))
+        (now (text .exit)) r ⌝ }
+{
+    let order = found.order;
+    let plan = found.plan;
+    let factor = order.tariff.factor;
+    let lines = put_plan_line(text, 0, order.periods, plan.buckets, plan.cost);
+    let trace = &demands[..order.periods as usize];
+    put_runs(
+        text,
+        lines,
+        factor,
+        trace,
+        plan.buckets as usize,
+        runs,
+        rates,
+        depths,
+    )
+}
