@@ -34,7 +34,7 @@ use Rattle.order_file.specs.OrderRules.{orderIn, read-rules, part-read, length-
 use Rattle.plan_file.specs.PlanRules.{CountsRange}
 use Rattle.plan_file.specs.RecordLaws.{RecordsRange, noRecord}
 use Rattle.planning.specs.Planning.{Planned}
-use Rattle.planning.specs.PlannedLaws.{IsPlanned, spread-demands, planned-order, planned-cheapest, carried-sum, carried-some, served-range}
+use Rattle.planning.specs.PlannedLaws.{IsPlanned, spread-demands, ordered-as, planned-cheapest, carried-sum, carried-some, served-range}
 use Rattle.booking.specs.Booking.{metersOf}
 use Rattle.booking.specs.Claim.{periodsIn, demandsAt, SeriesAnswer}
 
@@ -86,12 +86,12 @@ module _ (bs : List ℕ) (o : Order) (e : readOrder bs ≡ figures o) where
 module _ {space room : ℕ} {bs : List ℕ} {x : Planned} (p : IsPlanned space room bs x) where
   -- the demands are those in the file's bytes
   pub planned-demands : x .demands ≡ demandsAt bs
-  planned-demands = sym (spread-demands p) ∙ order-demands bs (x .order) (p .read)
+  planned-demands = sym (spread-demands (p .as-ordered)) ∙ order-demands bs (x .order) (p .as-ordered .read)
 
   pub planned-series : SeriesAnswer bs (x .cutting)
   planned-series =
       subst (λ (ds : List ℕ). Cheapest (tariffIn bs) ds (x .cutting)) planned-demands
-      (subst (λ (o : Order). Cheapest (o .tariff) (x .demands) (x .cutting)) (planned-order p) (planned-cheapest p))
+      (subst (λ (o : Order). Cheapest (o .tariff) (x .demands) (x .cutting)) (ordered-as (p .as-ordered)) (planned-cheapest p))
 
 -- ---- A carried cutting
 

@@ -25,8 +25,8 @@ use Rattle.order_file.specs.OrderRules.{OrderRules, orderIn, rules-read, read-r
 use Rattle.plan_file.specs.Plan.{Recorded, fitting, planIn, recordsOf}
 use Rattle.plan_file.specs.PlanLaws.{lists-hold}
 use Rattle.booking.specs.declared.calls.Booking.{Booking}
-use Rattle.planning.specs.Planning.{RecordLists, Planned, lists, roomIn, plannedRuns}
-use Rattle.planning.specs.PlannedLaws.{IsPlanned, is-planned}
+use Rattle.planning.specs.Planning.{RecordLists, Ordered, Planned, lists, roomIn, ordered, plannedRuns}
+use Rattle.planning.specs.PlannedLaws.{found-ordered, IsPlanned, is-planned}
 use Rattle.booking.specs.Booking.{Lent, Steps, lent, plannedFor, booked, answerOf, lentAfter}
 use Rattle.booking.specs.BookingLaws.{order-demands, planned-series}
 use Rattle.booking.specs.Claim.{periodsIn, demandsAt, CarriedIn, SeriesAnswer, LongEnough, InsideCaps, Kept, Demand3, Claim}
@@ -70,8 +70,9 @@ module _ (bs : List ℕ) (h : Bytes bs) (old after : Lent) (answer : Answer Book
     -- planning rests with the series call
     planned-so : plannedFor old bs ≡ plannedRuns (orderIn bs) ds (roomIn (old .plan))
     planned-so =
-        sym (then-figures (readOrder bs) (λ o. andThen (spreadOf (length (old .demands)) (tracePart bs)) (λ ds. plannedRuns o ds (roomIn (old .plan)))) (e ∙ ap figures order-is))
-        ∙ sym (then-figures (spreadOf (length (old .demands)) (tracePart bs)) (λ ds. plannedRuns (orderIn bs) ds (roomIn (old .plan))) spreads)
+        let x : Ordered = record { order = orderIn bs; demands = ds } in
+        let f = found-ordered (length (old .demands)) bs x (record { read = e ∙ ap figures order-is; spread = spreads }) in
+        sym (then-figures (ordered (length (old .demands)) bs) (λ y. plannedRuns (y .order) (y .demands) (roomIn (old .plan))) f)
 
     count : length ds ≡ periodsIn bs
     count = ap length (sym (order-demands bs o e)) ∙ demands-count bs o e ∙ ap (λ (x : Order). x .periods) order-is

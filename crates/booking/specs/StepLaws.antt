@@ -32,8 +32,8 @@ use Rattle.plan_file.specs.PlanLaws.{write-read, lists-hold}
 use Rattle.plan_file.specs.PlanRules.{counts-ok, write-figures}
 use Rattle.plan_file.specs.RecordLaws.{RecordsRange, records-ok}
 use Rattle.booking.specs.declared.calls.Booking.{Booking}
-use Rattle.planning.specs.Planning.{RecordLists, Planned, lists, roomIn, withRecords, spreadFrom, cuttingOf}
-use Rattle.planning.specs.PlannedLaws.{IsPlanned, is-planned, planned-count, planned-cheapest, planned-range}
+use Rattle.planning.specs.Planning.{RecordLists, Planned, lists, roomIn, withRecords, ordered, spreadFrom, cuttingOf}
+use Rattle.planning.specs.PlannedLaws.{is-ordered, found-spread, IsPlanned, is-planned, ordered-count, ordered-range, planned-cheapest}
 use Rattle.planning.specs.CallLaws.{room-kept}
 use Rattle.booking.specs.Booking.{Lent, Recording, Steps, lent, plannedFor, planFigures, readBack, metersOf, recordingFor, booked, lentAfter}
 use Rattle.booking.specs.BookingLaws.{PlanRange, NothingOver, carried-plan, carried-meters, file-demands, planned-demands}
@@ -58,17 +58,17 @@ module _ (bs : List ℕ) (h : Bytes bs) (old : Lent) (x : Planned) (is : IsPlann
   l = withRecords (figures cutting) (old .plan)
 
   count : length (x .demands) ≡ x .order .periods
-  count = planned-count is
+  count = ordered-count (is .as-ordered)
 
   ranges : PlanRange t (length (x .demands)) cutting
   ranges =
-      let r = planned-range is in
+      let r = ordered-range (is .as-ordered) in
       carried-plan t (r .1) (r .0) (planned-cheapest is .carried)
 
   -- each run's meter takes its offers and discards nothing
   pub planned-meters : NothingOver t (x .demands) cutting
   planned-meters =
-      let r = planned-range is in
+      let r = ordered-range (is .as-ordered) in
       let d = subst Demands (sym (planned-demands is)) (file-demands bs h) in
       carried-meters t (r .1) d (r .0 .few) (planned-cheapest is .carried)
 
@@ -181,7 +181,7 @@ planned-short : (bs : List ℕ) (old : Lent) (x : Planned) → plannedFor old bs
 planned-short bs old x e =
     let is = is-planned (length (old .demands)) (roomIn (old .plan)) bs x e in
     let n = carried-count (x .order .tariff) (planned-cheapest is .carried) in
-    let p = planned-range is .0 in
+    let p = ordered-range (is .as-ordered) .0 in
     (omega (arith, n, series-room (x .order .tariff) (x .demands) (roomIn (old .plan)) (x .cutting) (is .series)), omega (arith, n, p .few))
 
 lent-by : {a a′ : List ℕ} {b b′ : RecordLists} {c c′ : List ℕ} {d d′ : RecordLists} → a ≡ a′ → b ≡ b′ → c ≡ c′ → d ≡ d′ → lent a b c d ≡ lent a′ b′ c′ d′
@@ -195,7 +195,7 @@ module _ (bs : List ℕ) (old : Lent) (demands : List ℕ) (plan : RecordLists) 
       let p = is-planned (length (old .demands)) (roomIn (old .plan)) bs (s .planning) (f .is-plan) in
       let read = sym (then-figures (plannedFor old bs) (readFor old) (f .is-plan)) ∙ sym (then-figures (writtenFor old (s .planning)) _ (f .is-written)) ∙ ap bucketsOf (f .is-read) in
       lent-by
-      (c .spreads ∙ ap (λ (a : Answer (List ℕ)). filled a (old .demands)) (sym (then-figures _ _ (p .read)) ∙ p .spread))
+      (c .spreads ∙ ap (λ (a : Answer (List ℕ)). filled a (old .demands)) (found-spread (p .as-ordered)))
       (c .records ∙ ap (λ (a : Answer Planned). withRecords (cuttingOf a) (old .plan)) (f .is-plan))
       (c .writes ∙ ap (λ (a : Answer (List ℕ)). filled a (old .bytes)) (sym (then-figures (plannedFor old bs) (writtenFor old) (f .is-plan)) ∙ f .is-written))
       (c .reads ∙ ap (λ (a : Answer Cutting). withRecords a (old .back)) read)
@@ -206,7 +206,10 @@ module _ (bs : List ℕ) (old : Lent) (demands : List ℕ) (plan : RecordLists) 
   demands-front = subst (FrontOnly (old .demands)) (sym (c .spreads)) (filled-front-only (spreadFrom (length (old .demands)) bs) (old .demands) short)
     where
       short : (ds : List ℕ) → spreadFrom (length (old .demands)) bs ≡ figures ds → length ds ≤ frontLength (old .demands)
-      short ds e = let f = then-found (readOrder bs) _ e in spread-short bs (f .0) (f .1) (length (old .demands)) ds (f .2)
+      short ds e =
+          let f = on-figures (λ x. x .demands) (ordered (length (old .demands)) bs) e in
+          let o = is-ordered (length (old .demands)) bs (f .0) (f .1) in
+          spread-short bs (f .0 .order) (o .read) (length (old .demands)) ds (o .spread ∙ ap figures (f .2))
 
   abbrev planned-list : (BucketRecord → ℕ) → List ℕ → List ℕ
   planned-list figure xs = recorded figure (cuttingOf (plannedFor old bs)) xs

@@ -2,7 +2,7 @@
 -- Assumes nothing.
 use Prim.Native.Nat.{ℕ, _≤_}
 use native.Mathlib.Omega.{arith}
-use mathlib.Core.Path.{_≡_, refl, sym, ap, _∙_}
+use mathlib.Core.Path.{_≡_, refl, sym, ap, ap₂, _∙_}
 use mathlib.Core.List.{List, map}
 use lib.ListN.{length, take, length-append, length-drop, length-map, length-take}
 use Rattle.terms.specs.declared.BucketRecord.{BucketRecord}
@@ -17,8 +17,8 @@ use Rattle.series.specs.Series as series
 use Rattle.order_file.specs.declared.orders.Order.{Order}
 use Rattle.order_file.specs.Order.{readOrder, tracePart, spreadOf}
 use Rattle.planning.specs.declared.orders.PlannedOrder.{PlannedOrder}
-use Rattle.planning.specs.Planning.{RecordLists, Planned, lists, roomIn, withRecords, planned, plannedRuns, plannedFigures, spreadFrom, cuttingOf, PlansOrder}
-use Rattle.planning.specs.PlannedLaws.{IsPlanned, is-planned, planned-count}
+use Rattle.planning.specs.Planning.{RecordLists, Ordered, Planned, lists, roomIn, withRecords, ordered, SpreadsOrder, planned, plannedRuns, plannedFigures, cuttingOf, PlansOrder}
+use Rattle.planning.specs.PlannedLaws.{IsOrdered, is-ordered, found-spread, ordered-count, IsPlanned, is-planned}
 
 -- What fills the front of a list, read off it: as many entries as there are.
 module _ (a : Answer (List ℕ)) (old new : List ℕ) (n : ℕ) (e : figures n ≡ onFigures length a) (f : new ≡ filled a old) where
@@ -56,68 +56,115 @@ room-kept xs back l =
     kept : (figure : BucketRecord → ℕ) (old : List ℕ) → length xs ≤ length old → length (recorded figure (figures xs) old) ≡ length old
     kept figure old m = length-append (map figure xs) _ ∙ omega (arith, length-map xs figure, length-drop (length (map figure xs)) old)
 
--- The plan found with what the order says.
-abbrev pub withOrder : Order → Plan → PlannedOrder
-withOrder o x = record { order = o; plan = x }
+-- ---- The order read and its trace spread
 
-module _ (bs demands : List ℕ) (plan : RecordLists) where
-  abbrev these : Answer Planned
-  these = planned (length demands) (roomIn plan) bs
+module _ (bs demands : List ℕ) where
+  abbrev reading : Answer Ordered
+  reading = ordered (length demands) bs
 
-  no-plan : (demands′ : List ℕ) (n : ℕ) → these ≡ refused n → demands′ ≡ filled (spreadFrom (length demands) bs) demands → PlansOrder bs demands plan demands′ plan (refused n)
-  no-plan demands′ n e d =
-      record { answers = sym (ap (onFigures plannedFigures) e); spreads = d; records = sym (ap (λ (a : Answer Planned). withRecords (cuttingOf a) plan) e) }
+  spread-as : (a : Answer Ordered) → reading ≡ a → (demands′ : List ℕ) → demands′ ≡ filled (onFigures (λ x. x .demands) a) demands
+      → SpreadsOrder bs demands demands′ (onFigures (λ x. x .order) a)
+  spread-as a e demands′ d =
+      record { answers = ap (onFigures (λ x. x .order)) (sym e); spreads = d ∙ ap (λ (b : Answer Ordered). filled (onFigures (λ x. x .demands) b) demands) (sym e) }
 
-  pub order-refused : (n : ℕ) → readOrder bs ≡ refused n → PlansOrder bs demands plan demands plan (refused n)
-  order-refused n e = no-plan demands n (sym (then-refused _ _ e)) (ap (λ (a : Answer (List ℕ)). filled a demands) (then-refused _ _ e))
+  pub order-refused : (n : ℕ) → readOrder bs ≡ refused n → SpreadsOrder bs demands demands (refused n)
+  order-refused n e = spread-as (refused n) (sym (then-refused (readOrder bs) _ e)) demands refl
 
   module _ (o : Order) (e : readOrder bs ≡ figures o) (part : List ℕ) (p : part ≡ tracePart bs) where
     abbrev spreading : Answer (List ℕ)
     spreading = spreadOf (length demands) part
 
-    part-spread : spreading ≡ spreadFrom (length demands) bs
-    part-spread = ap (spreadOf (length demands)) p ∙ then-figures _ _ e
+    abbrev with-order : List ℕ → Ordered
+    with-order ds = record { order = o; demands = ds }
 
-    abbrev onward : Answer (List ℕ) → Answer Planned
-    onward a = andThen a (λ ds. plannedRuns o ds (roomIn plan))
-
-    these-are : onward spreading ≡ these
-    these-are = ap (λ (ys : List ℕ). onward (spreadOf (length demands) ys)) p ∙ then-figures _ _ e
+    reading-is : reading ≡ onFigures with-order spreading
+    reading-is = sym (then-figures (readOrder bs) _ e) ∙ ap (λ (ys : List ℕ). onFigures with-order (spreadOf (length demands) ys)) (sym p)
 
     module _ (demands′ : List ℕ) (d : demands′ ≡ filled spreading demands) where
-      spreads-so : demands′ ≡ filled (spreadFrom (length demands) bs) demands
-      spreads-so = d ∙ ap (λ (a : Answer (List ℕ)). filled a demands) part-spread
+      pub spread-refused : (n : ℕ) → refused n ≡ onFigures length spreading → SpreadsOrder bs demands demands′ (refused n)
+      spread-refused n f =
+          let g : spreading ≡ refused n = on-refused length spreading (sym f) in
+          spread-as (refused n) (reading-is ∙ ap (onFigures with-order) g) demands′ (d ∙ ap (λ (a : Answer (List ℕ)). filled a demands) g)
 
-      pub spread-refused : (n : ℕ) → refused n ≡ onFigures length spreading → PlansOrder bs demands plan demands′ plan (refused n)
-      spread-refused n f = no-plan demands′ n (sym these-are ∙ ap onward (on-refused length spreading (sym f))) spreads-so
+      pub spread-found : (n : ℕ) → figures n ≡ onFigures length spreading → SpreadsOrder bs demands demands′ (figures o)
+      spread-found n f =
+          let g = on-figures length spreading (sym f) in
+          spread-as (figures (with-order (g .0))) (reading-is ∙ ap (onFigures with-order) (g .1)) demands′ (d ∙ ap (λ (a : Answer (List ℕ)). filled a demands) (g .1))
 
-      module _ (n : ℕ) (f : figures n ≡ onFigures length spreading) where
-        -- the series for the numbers spread
-        abbrev found : Answer Cutting
-        found = seriesOf (o .tariff) (roomIn plan) (take n demands′)
+-- An order that was found.
+module _ (bs demands demands′ : List ℕ) (found : Answer Order) (p : SpreadsOrder bs demands demands′ found) (o : Order) (f : found ≡ figures o) where
+  pub found-order : (x : Ordered) × (ordered (length demands) bs ≡ figures x) × (x .order ≡ o)
+  found-order = on-figures (λ x. x .order) (ordered (length demands) bs) (sym (p .answers) ∙ f)
 
-        runs-planned : these ≡ onFigures (λ xs. record { order = o; demands = take n demands′; cutting = xs }) found
-        runs-planned =
-            sym these-are
-            ∙ ap onward (fills-front spreading demands demands′ n f d)
+  abbrev pub order-as : Ordered
+  order-as = found-order .0
 
-        plan-answers : (a : Answer Cutting)
-            → onFigures (withOrder o) (series.planOf (o .tariff) a) ≡ onFigures plannedFigures (onFigures (λ xs. record { order = o; demands = take n demands′; cutting = xs }) a)
-        plan-answers (figures xs) = refl
-        plan-answers (refused m) = refl
+  pub order-is : IsOrdered (length demands) bs order-as
+  order-is = is-ordered (length demands) bs order-as (found-order .1)
 
-        cutting-is : (a : Answer Cutting) → a ≡ cuttingOf (onFigures (λ xs. record { order = o; demands = take n demands′; cutting = xs }) a)
-        cutting-is (figures xs) = refl
-        cutting-is (refused m) = refl
+  count-is : o .periods ≡ length (order-as .demands)
+  count-is = ap (λ (z : Order). z .periods) (sym (found-order .2)) ∙ sym (ordered-count order-is)
 
-        pub series-planned : (runs rates depths : List ℕ) (r : Answer Plan) → r ≡ series.planOf (o .tariff) found → Filled found plan (lists runs rates depths)
-            → (answer : Answer PlannedOrder) → answer ≡ onFigures (withOrder o) r → PlansOrder bs demands plan demands′ (lists runs rates depths) answer
-        series-planned runs rates depths r g k answer h =
-            record {
-              answers = h ∙ ap (onFigures (withOrder o)) g ∙ plan-answers found ∙ ap (onFigures plannedFigures) (sym runs-planned);
-              spreads = spreads-so;
-              records = lists-are found plan runs rates depths k ∙ ap (λ (a : Answer Cutting). withRecords a plan) (cutting-is found ∙ ap cuttingOf (sym runs-planned));
-            }
+  -- the T numbers spread
+  pub demands-are : take (o .periods) demands′ ≡ order-as .demands
+  demands-are =
+      ap (λ (n : ℕ). take n demands′) count-is
+      ∙ ap (take (length (order-as .demands))) (p .spreads ∙ ap (λ (a : Answer Ordered). filled (onFigures (λ x. x .demands) a) demands) (found-order .1))
+      ∙ filled-front (order-as .demands) demands
+
+  pub demands-count : length (take (o .periods) demands′) ≡ o .periods
+  demands-count = ap length demands-are ∙ sym count-is
+
+  pub demands-inside : o .periods ≤ length demands′
+  demands-inside = omega (arith, demands-count, length-take (o .periods) demands′)
+
+-- ---- The series planned
+
+-- The plan found with what the order says.
+abbrev pub withOrder : Order → Plan → PlannedOrder
+withOrder o x = record { order = o; plan = x }
+
+module _ (bs demands : List ℕ) (plan : RecordLists) (demands′ : List ℕ) (found : Answer Order) (p : SpreadsOrder bs demands demands′ found) where
+  abbrev these : Answer Planned
+  these = planned (length demands) (roomIn plan) bs
+
+  pub planning-refused : (n : ℕ) → found ≡ refused n → PlansOrder bs demands plan demands′ plan (refused n)
+  planning-refused n f =
+      let g : ordered (length demands) bs ≡ refused n = on-refused (λ x. x .order) (ordered (length demands) bs) (sym (p .answers) ∙ f) in
+      let e : these ≡ refused n = sym (then-refused (ordered (length demands) bs) _ g) in
+      record { answers = sym (ap (onFigures plannedFigures) e); spreads = p .spreads; records = sym (ap (λ (a : Answer Planned). withRecords (cuttingOf a) plan) e) }
+
+  module _ (o : Order) (f : found ≡ figures o) where
+    -- the series for the numbers spread
+    abbrev answer-for : Answer Cutting
+    answer-for = seriesOf (o .tariff) (roomIn plan) (take (o .periods) demands′)
+
+    abbrev runs-as : List ℕ → Cutting → Planned
+    runs-as ds xs = record { order = o; demands = ds; cutting = xs }
+
+    runs-planned : these ≡ onFigures (runs-as (take (o .periods) demands′)) answer-for
+    runs-planned =
+        let x = found-order bs demands demands′ found p o f in
+        sym (then-figures (ordered (length demands) bs) (λ z. plannedRuns (z .order) (z .demands) (roomIn plan)) (x .1))
+        ∙ ap₂ (λ (z : Order) (ds : List ℕ). plannedRuns z ds (roomIn plan)) (x .2) (sym (demands-are bs demands demands′ found p o f))
+
+    plan-answers : (a : Answer Cutting)
+        → onFigures (withOrder o) (series.planOf (o .tariff) a) ≡ onFigures plannedFigures (onFigures (runs-as (take (o .periods) demands′)) a)
+    plan-answers (figures xs) = refl
+    plan-answers (refused m) = refl
+
+    cutting-is : (a : Answer Cutting) → a ≡ cuttingOf (onFigures (runs-as (take (o .periods) demands′)) a)
+    cutting-is (figures xs) = refl
+    cutting-is (refused m) = refl
+
+    pub series-planned : (runs rates depths : List ℕ) (r : Answer Plan) → r ≡ series.planOf (o .tariff) answer-for → Filled answer-for plan (lists runs rates depths)
+        → (answer : Answer PlannedOrder) → answer ≡ onFigures (withOrder o) r → PlansOrder bs demands plan demands′ (lists runs rates depths) answer
+    series-planned runs rates depths r g k answer h =
+        record {
+          answers = h ∙ ap (onFigures (withOrder o)) g ∙ plan-answers answer-for ∙ ap (onFigures plannedFigures) (sym runs-planned);
+          spreads = p .spreads;
+          records = lists-are answer-for plan runs rates depths k ∙ ap (λ (a : Answer Cutting). withRecords a plan) (cutting-is answer-for ∙ ap cuttingOf (sym runs-planned));
+        }
 
 -- ---- A plan that was found
 
@@ -135,13 +182,13 @@ module _ (bs demands : List ℕ) (plan : RecordLists) (demands′ : List ℕ) (p
   periods-is : y .order .periods ≡ length (found-as .demands)
   periods-is =
       ap (λ (z : PlannedOrder). z .order .periods) (sym (found-plan .2))
-      ∙ sym (planned-count found-is)
+      ∙ sym (ordered-count (found-is .as-ordered))
 
   -- the T numbers spread
   pub trace-is : take (y .order .periods) demands′ ≡ found-as .demands
   trace-is =
       ap (λ (n : ℕ). take n demands′) periods-is
-      ∙ ap (take (length (found-as .demands))) (p .spreads ∙ ap (λ (a : Answer (List ℕ)). filled a demands) (sym (then-figures _ _ (found-is .read)) ∙ found-is .spread))
+      ∙ ap (take (length (found-as .demands))) (p .spreads ∙ ap (λ (a : Answer (List ℕ)). filled a demands) (found-spread (found-is .as-ordered)))
       ∙ filled-front (found-as .demands) demands
 
   pub trace-count : length (take (y .order .periods) demands′) ≡ y .order .periods

@@ -35,6 +35,26 @@ roomIn l = roomOf (l .runs) (l .rates) (l .depths)
 abbrev pub withRecords : Answer Cutting → RecordLists → RecordLists
 withRecords a old = record { runs = recorded runLength a (old .runs); rates = recorded runRate a (old .rates); depths = recorded runDepth a (old .depths) }
 
+-- ---- The order and its demands
+
+-- What an order says, and the T numbers of its trace.
+pub record Ordered : Type 0 where
+  pub order : Order
+  pub demands : List ℕ
+
+-- The order is read; its trace part is handed back and spread, into `space` entries.
+abbrev pub ordered : ℕ → List ℕ → Answer Ordered
+ordered space bs = andThen (readOrder bs) (λ o. onFigures (λ ds. record { order = o; demands = ds }) (spreadOf space (tracePart bs)))
+
+-- The demands alone.
+abbrev pub spreadFrom : ℕ → List ℕ → Answer (List ℕ)
+spreadFrom space bs = onFigures (λ x. x .demands) (ordered space bs)
+
+-- What is answered, and what the list of demands then holds.
+pub record SpreadsOrder (bs demands demands′ : List ℕ) (answer : Answer Order) : Type 0 where
+  pub answers : answer ≡ onFigures (λ x. x .order) (ordered (length demands) bs)
+  pub spreads : demands′ ≡ filled (spreadFrom (length demands) bs) demands
+
 -- ---- Planning
 
 -- What the calls up to planning give.
@@ -47,9 +67,9 @@ pub record Planned : Type 0 where
 abbrev pub plannedRuns : Order → List ℕ → ℕ → Answer Planned
 plannedRuns o ds room = onFigures (λ xs. record { order = o; demands = ds; cutting = xs }) (seriesOf (o .tariff) room ds)
 
--- The order is read; its trace part is handed back and spread, into `space` entries; the series is planned.
+-- The order is read and its trace spread, into `space` entries; the series is planned.
 abbrev pub planned : ℕ → ℕ → List ℕ → Answer Planned
-planned space room bs = andThen (readOrder bs) (λ o. andThen (spreadOf space (tracePart bs)) (λ ds. plannedRuns o ds room))
+planned space room bs = andThen (ordered space bs) (λ x. plannedRuns (x .order) (x .demands) room)
 
 -- ---- What is answered and left
 
@@ -61,10 +81,6 @@ plannedSays (Refused x) = refused (numberOf x)
 -- The figures that are answered.
 abbrev pub plannedFigures : Planned → PlannedOrder
 plannedFigures x = record { order = x .order; plan = record { buckets = length (x .cutting); cost = trueCost (x .order .tariff) (x .cutting) } }
-
--- The order is read and its trace spread.
-abbrev pub spreadFrom : ℕ → List ℕ → Answer (List ℕ)
-spreadFrom space bs = andThen (readOrder bs) (λ o. spreadOf space (tracePart bs))
 
 abbrev pub cuttingOf : Answer Planned → Answer Cutting
 cuttingOf = onFigures (λ x. x .cutting)

@@ -13,7 +13,8 @@ use terms::Refusal;
 ghost use mathlib.Core.Path.{_≡_};
 ghost use Rattle.terms.specs.Answer.{onFigures};
 ghost use Rattle.series.specs.Series.{seriesSays};
-ghost use Rattle.planning.specs.Planning.{PlansOrder, lists, plannedSays};
+ghost use Rattle.order_file.specs.Order.{orderSays};
+ghost use Rattle.planning.specs.Planning.{PlansOrder, SpreadsOrder, lists, plannedSays};
 ghost use Rattle.planning.specs.CallLaws.{withOrder};
 
 // What an order says and the plan found for it.
@@ -25,6 +26,21 @@ pub struct PlannedOrder {
 pub enum PlannedAnswer {
     Found(PlannedOrder),
     Refused(Refusal),
+}
+
+// Reads the order and spreads its trace's part into the demands; or refusal 1 to 6, and the demands
+// are as they were.
+pub fn spread_order(order: &[u8], demands: &mut [u16]) -> OrderAnswer
+    ensures { λ r. ⌜ SpreadsOrder (now (order .entry)) (now (demands .entry)) (now (demands .exit)) (orderSays r) ⌝ }
+{
+    let found = match read_order(order) {
+        OrderAnswer::Read(x) => x,
+        OrderAnswer::Refused(why) => return OrderAnswer::Refused(why),
+    };
+    match spread(trace_part(order), demands) {
+        FillAnswer::Filled(_) => OrderAnswer::Read(found),
+        FillAnswer::Refused(why) => OrderAnswer::Refused(why),
+    }
 }
 
 // Reads the order, spreads its trace's part into the demands, and plans the series with the tariff
@@ -41,14 +57,11 @@ pub fn plan_order(
         (now (demands .exit)) (lists (now (runs .exit)) (now (rates .exit)) (now (depths .exit)))
         (plannedSays r) ⌝ }
 {
-    let found = match read_order(order) {
+    let found = match spread_order(order, demands) {
         OrderAnswer::Read(x) => x,
         OrderAnswer::Refused(why) => return PlannedAnswer::Refused(why),
     };
-    let periods = match spread(trace_part(order), demands) {
-        FillAnswer::Filled(n) => n,
-        FillAnswer::Refused(why) => return PlannedAnswer::Refused(why),
-    };
+    let periods = found.periods as usize;
     let tariff = found.tariff;
     let plan = series(&demands[..periods], tariff, runs, rates, depths);
     with_order(found, plan)

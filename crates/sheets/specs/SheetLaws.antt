@@ -28,7 +28,7 @@ use Rattle.text.specs.PutLaws.{Puts, Room}
 use Rattle.text.specs.ChainLaws.{first-of-two, second-of-two, two}
 use Rattle.planning.specs.declared.orders.PlannedOrder.{PlannedOrder}
 use Rattle.planning.specs.Planning.{RecordLists, Planned, PlansOrder, lists, roomIn, withRecords, planned, plannedFigures}
-use Rattle.planning.specs.PlannedLaws.{planned-count, planned-range, planned-cheapest, carried-sum, served-range}
+use Rattle.planning.specs.PlannedLaws.{ordered-count, ordered-range, planned-cheapest, carried-sum, served-range}
 use Rattle.planning.specs.CallLaws.{room-kept, found-plan, found-as, found-is, trace-is, trace-inside, plan-is}
 use Rattle.sheets.specs.Sheet.{runLines, sheetText, sheetIn}
 use Rattle.sheets.specs.RunLaws.{Printable}
@@ -97,13 +97,13 @@ module _ (bs demands : List ℕ) (plan : RecordLists) (demands′ runs rates dep
     module _ (room : traceLimit ≤ roomIn plan) where
       few-runs : length (x .cutting) ≤ traceLimit
       few-runs =
-          let r = planned-range (found-is bs demands plan demands′ (lists runs rates depths) found p y f) in
+          let r = ordered-range (found-is bs demands plan demands′ (lists runs rates depths) found p y f .as-ordered) in
           omega (arith, carried-count t carried, r .0 .few)
 
       pub shown : Shown y demands′ runs rates depths
       shown =
           let is = found-is bs demands plan demands′ (lists runs rates depths) found p y f in
-          let r = planned-range is in
+          let r = ordered-range (is .as-ordered) in
           let fits : length (x .cutting) ≤ roomIn plan = omega (arith, few-runs, room) in
           let kept : roomOf runs rates depths ≡ roomIn plan =
           ap roomIn (plan-is bs demands plan demands′ (lists runs rates depths) found p y f) ∙ room-kept (x .cutting) plan fits in
@@ -118,7 +118,7 @@ module _ (bs demands : List ℕ) (plan : RecordLists) (demands′ runs rates dep
                 (subst (λ (ds : List ℕ). Printable (t .factor) ds (recordsOf (y .plan .buckets) runs rates depths)) (sym demands-are)
                 (subst (Printable (t .factor) (x .demands)) (sym records-are) ready));
             short = subst (λ (zs : List ℕ). length zs ≤ longestSheet) (sym text-is) (
-                let n : x .order .periods ≡ length (x .demands) = sym (planned-count is) in
+                let n : x .order .periods ≡ length (x .demands) = sym (ordered-count (is .as-ordered)) in
                 let first = planLine (x .order .periods) (length (x .cutting)) (trueCost t (x .cutting)) in
                 let lines = runLines (t .factor) 1 (x .demands) (x .cutting) in
                 omega (
