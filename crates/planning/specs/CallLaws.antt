@@ -2,7 +2,7 @@
 -- Assumes nothing.
 use Prim.Native.Nat.{ℕ, _≤_}
 use native.Mathlib.Omega.{arith}
-use mathlib.Core.Path.{_≡_, refl, sym, ap, ap₂, _∙_}
+use mathlib.Core.Path.{_≡_, refl, sym, ap, ap₂, subst, _∙_}
 use mathlib.Core.List.{List, map}
 use lib.ListN.{length, take, length-append, length-drop, length-map, length-take}
 use Rattle.terms.specs.declared.BucketRecord.{BucketRecord}
@@ -10,6 +10,7 @@ use Rattle.terms.specs.Answer.{Answer, figures, refused, onFigures, andThen}
 use Rattle.terms.specs.AnswerLaws.{on-figures, on-refused, then-figures, then-refused}
 use Rattle.terms.specs.Lent.{filled, recorded}
 use Rattle.terms.specs.LentLaws.{Lists, rooms, filled-front}
+use Rattle.terms.specs.RangeLaws.{PeriodsRange, TariffRange}
 use Rattle.terms.specs.Records.{Cutting, runLength, runRate, runDepth}
 use Rattle.series.specs.declared.plans.Plan.{Plan}
 use Rattle.series.specs.Series.{seriesOf}
@@ -18,7 +19,7 @@ use Rattle.order_file.specs.declared.orders.Order.{Order}
 use Rattle.order_file.specs.Order.{readOrder, tracePart, spreadOf}
 use Rattle.planning.specs.declared.orders.PlannedOrder.{PlannedOrder}
 use Rattle.planning.specs.Planning.{RecordLists, Ordered, Planned, lists, roomIn, withRecords, ordered, SpreadsOrder, planned, plannedRuns, plannedFigures, cuttingOf, PlansOrder}
-use Rattle.planning.specs.PlannedLaws.{IsOrdered, is-ordered, found-spread, ordered-count, IsPlanned, is-planned}
+use Rattle.planning.specs.PlannedLaws.{IsOrdered, is-ordered, found-spread, ordered-count, ordered-range, IsPlanned, is-planned}
 
 -- What fills the front of a list, read off it: as many entries as there are.
 module _ (a : Answer (List ℕ)) (old new : List ℕ) (n : ℕ) (e : figures n ≡ onFigures length a) (f : new ≡ filled a old) where
@@ -117,6 +118,11 @@ module _ (bs demands demands′ : List ℕ) (found : Answer Order) (p : SpreadsO
 
   pub demands-inside : o .periods ≤ length demands′
   demands-inside = omega (arith, demands-count, length-take (o .periods) demands′)
+
+  pub order-range : PeriodsRange (length (take (o .periods) demands′)) × TariffRange (o .tariff)
+  order-range =
+      let r = ordered-range order-is in
+      (subst (λ (ds : List ℕ). PeriodsRange (length ds)) (sym demands-are) (r .0), subst (λ (z : Order). TariffRange (z .tariff)) (found-order .2) (r .1))
 
 -- ---- The series planned
 

@@ -1,6 +1,9 @@
-// The services as text: from an order file to the sheet.
+// The three services as text, from an order file: the trial, the single bucket, and the sheet of the
+// series.
 pub mod plans;
 pub mod runs;
 mod services;
 
 pub use services::sheet;
+pub use services::single_line;
+pub use services::trial_line;

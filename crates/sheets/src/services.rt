@@ -1,16 +1,26 @@
 // The services as text, from an order file.
 use crate::plans::LONGEST_SHEET;
 use crate::plans::put_sheet;
+use bucket::TrialAnswer;
+use bucket::trial;
 use encoding::FillAnswer;
+use order_file::OrderAnswer;
 use planning::orders::PlannedAnswer;
 use planning::orders::plan_order;
+use planning::orders::spread_order;
+use single::SingleAnswer;
+use single::single;
+use terms::Bucket;
 use terms::limits::TRACE_LIMIT;
 use text::fills::fill;
+use text::lines::put_single_line;
+use text::lines::put_trial_line;
 ghost use mathlib.Core.Path.{_≡_};
 ghost use lib.ListN.{length};
 ghost use Rattle.terms.specs.Answer.{onFigures};
 ghost use Rattle.terms.specs.Lent.{filled};
 ghost use Rattle.encoding.specs.Fill.{fillSays};
+ghost use Rattle.sheets.specs.Services.{singleIn, trialIn};
 ghost use Rattle.sheets.specs.Sheet.{sheetIn};
 
 // Writes the sheet of an order into the front of the text and answers its length; or a refusal, and
@@ -30,5 +40,55 @@ pub fn sheet(order: &[u8], text: &mut [u8]) -> FillAnswer
     };
     let mut ready = [0u8; LONGEST_SHEET];
     let length = put_sheet(&mut ready, found, &demands, &runs, &rates, &depths);
+    fill(&ready[..length], text)
+}
+
+// The bytes of the longest line of a trial, of any figures of their types.
+const LONGEST_TRIAL: usize = 40;
+
+// Writes the line of a trial of a bucket on an order's trace into the front of the text and answers
+// its length; or a refusal, and the text is as it was: 1 to 5 as reading the order gives it, 5 (the
+// bucket) or 6 (the text is shorter than the line).
+pub fn trial_line(order: &[u8], bucket: Bucket, text: &mut [u8]) -> FillAnswer
+    ensures { λ r. ⌜ fillSays r ≡ onFigures length (trialIn (length (now (text .entry))) bucket (now (order .entry))) ⌝ }
+    ensures { λ _. ⌜ now (text .exit) ≡ filled (trialIn (length (now (text .entry))) bucket (now (order .entry))) (now (text .entry)) ⌝ }
+{
+    let mut demands = [0u16; TRACE_LIMIT];
+    let found = match spread_order(order, &mut demands) {
+        OrderAnswer::Read(x) => x,
+        OrderAnswer::Refused(why) => return FillAnswer::Refused(why),
+    };
+    let factor = found.tariff.factor;
+    let figures = match trial(bucket, factor, &demands[..found.periods as usize]) {
+        TrialAnswer::Found(x) => x,
+        TrialAnswer::Refused(why) => return FillAnswer::Refused(why),
+    };
+    let mut ready = [0u8; LONGEST_TRIAL];
+    let length = put_trial_line(&mut ready, 0, figures.spare, figures.over);
+    fill(&ready[..length], text)
+}
+
+// The bytes of the longest line of a single bucket.
+const LONGEST_SINGLE: usize = 37;
+
+// Writes the line of the single bucket for an order into the front of the text and answers its
+// length; or a refusal, and the text is as it was: 1 to 5 as reading the order gives it, 7 (no
+// bucket) or 6 (the text is shorter than the line).
+pub fn single_line(order: &[u8], text: &mut [u8]) -> FillAnswer
+    ensures { λ r. ⌜ fillSays r ≡ onFigures length (singleIn (length (now (text .entry))) (now (order .entry))) ⌝ }
+    ensures { λ _. ⌜ now (text .exit) ≡ filled (singleIn (length (now (text .entry))) (now (order .entry))) (now (text .entry)) ⌝ }
+{
+    let mut demands = [0u16; TRACE_LIMIT];
+    let found = match spread_order(order, &mut demands) {
+        OrderAnswer::Read(x) => x,
+        OrderAnswer::Refused(why) => return FillAnswer::Refused(why),
+    };
+    let tariff = found.tariff;
+    let priced = match single(&demands[..found.periods as usize], tariff) {
+        SingleAnswer::Found(x) => x,
+        SingleAnswer::Refused(why) => return FillAnswer::Refused(why),
+    };
+    let mut ready = [0u8; LONGEST_SINGLE];
+    let length = put_single_line(&mut ready, 0, priced.bucket, priced.cost);
     fill(&ready[..length], text)
 }

@@ -1,22 +1,14 @@
 -- The lists are as long as any order needs; the array holds the longest sheet, and its front is the sheet.
-use Prim.Native.Nat.{ℕ, _≤_}
 use mathlib.Core.Path.{_≡_, sym, ap}
-use mathlib.Core.List.{List}
-use lib.ListN.{length, replicate, length-replicate}
 use native.Mathlib.Nat.{le-of-eq}
 use Rattle.terms.specs.Lent.{roomOf}
 use Rattle.planning.specs.Planning.{plannedSays}
 use Rattle.text.specs.FittedLaws.{ready-count, ready-inside, ready-fills}
+use Rattle.sheets.specs.ServiceLaws.{long, zeros}
 use Rattle.sheets.specs.SheetLaws.{plan-refused, same-room-of, shown, sheet-filled, sheet-room}
 use borrow.Author.Needs.{needs}
 use Rattle.sheets.proofs.services.sheet.Statement.{statement}
 use Rattle.sheets.proofs.services.sheet.Tie as tie
-
-abbrev zeros : ℕ → List ℕ
-zeros n = replicate n 0
-
-long : (n : ℕ) → length (zeros n) ≡ n
-long n = length-replicate {0} {A = ℕ} n 0
 
 lists-long : roomOf (zeros 512) (zeros 512) (zeros 512) ≡ 512
 lists-long = same-room-of (zeros 512) (zeros 512) (zeros 512) 512 (long 512) (long 512) (long 512)
