@@ -1,0 +1,59 @@
+// What the programs share: an order on standard input, a text or a refusal on standard output or
+// standard error. For them alone: no contract can say what a program reads or writes, so each
+// program's output is held to a stored one.
+use encoding::FillAnswer;
+use libc::STDERR_FILENO;
+use libc::STDIN_FILENO;
+use libc::STDOUT_FILENO;
+use terms::Refusal;
+use text::refusal_line;
+ghost use Rattle.io.specs.Counts.{Counts};
+
+// One byte more than the longest order, so that a byte behind it is seen.
+pub const ORDER_ROOM: usize = 1073;
+
+// Reads all of standard input, in whatever pieces it comes, or as much of it as there is room for.
+pub fn read_order(order: &mut [u8; ORDER_ROOM]) -> usize
+    ensures { λ r. ⌜ Counts r (now (order .exit)) ⌝ }
+{
+    io::read_full(STDIN_FILENO, order)
+}
+
+// Whether the program was started with that many words, its own name among them; where it was not,
+// its use goes to standard error.
+pub fn has_words(count: usize, usage: &[u8]) -> bool {
+    if os::arg_count() == count {
+        return true;
+    }
+    put(STDERR_FILENO, usage);
+    false
+}
+
+// Writes the text that a call has filled to standard output, or the refusal line.
+pub fn print(answer: FillAnswer, text: &[u8]) {
+    match answer {
+        FillAnswer::Filled(length) => put_front(text, length),
+        FillAnswer::Refused(why) => refuse(STDOUT_FILENO, why),
+    }
+}
+
+// Writes the front of some bytes to standard output.
+pub fn put_front(bytes: &[u8], length: usize) {
+    if length <= bytes.len() {
+        put(STDOUT_FILENO, &bytes[..length]);
+    }
+}
+
+// Writes the refusal line.
+pub fn refuse(fd: i32, why: Refusal) {
+    let mut line = [0u8; 10];
+    refusal_line(why, &mut line);
+    put(fd, &line);
+}
+
+// Writes all of some bytes, and says so where that fails.
+pub fn put(fd: i32, bytes: &[u8]) {
+    if !io::write_all(fd, bytes) {
+        os::fail(b"write");
+    }
+}

@@ -1,0 +1,17 @@
+// Prints the sheet of the order on standard input, or the refusal line.
+use console::ORDER_ROOM;
+use console::has_words;
+use console::print;
+use console::read_order;
+use sheets::plans::LONGEST_SHEET;
+
+fn main() {
+    if !has_words(1, b"use: sheet < ORDER (an order file on standard input)\n") {
+        return;
+    }
+    let mut order = [0u8; ORDER_ROOM];
+    let length = read_order(&mut order);
+    let mut text = [0u8; LONGEST_SHEET];
+    let answer = sheets::sheet(&order[..length], &mut text);
+    print(answer, &text);
+}

@@ -1,0 +1,20 @@
+// Prints the single bucket for the order on standard input and its cost, or the refusal line.
+use console::ORDER_ROOM;
+use console::has_words;
+use console::print;
+use console::read_order;
+use sheets::single_line;
+
+fn main() {
+    if !has_words(
+        1,
+        b"use: single_bucket < ORDER (an order file on standard input)\n",
+    ) {
+        return;
+    }
+    let mut order = [0u8; ORDER_ROOM];
+    let length = read_order(&mut order);
+    let mut text = [0u8; 64];
+    let answer = single_line(&order[..length], &mut text);
+    print(answer, &text);
+}

@@ -1,0 +1,57 @@
+// Prints the spare and the discards of a bucket on the trace of the order on standard input, or the
+// refusal line. The arguments are the bucket's rate and depth.
+use console::ORDER_ROOM;
+use console::has_words;
+use console::print;
+use console::put;
+use console::read_order;
+use libc::STDERR_FILENO;
+use order_text::NumberAnswer;
+use order_text::number_of;
+use sheets::trial_line;
+use terms::Bucket;
+use terms::Depth;
+use terms::Rate;
+
+fn main() {
+    if !has_words(
+        3,
+        b"use: trial RATE DEPTH < ORDER (kilobits; an order file on standard input)\n",
+    ) {
+        return;
+    }
+    let NumberAnswer::Number(rate) = argument(1) else {
+        put(
+            STDERR_FILENO,
+            b"trial: RATE is a whole number of kilobits\n",
+        );
+        return;
+    };
+    let NumberAnswer::Number(depth) = argument(2) else {
+        put(
+            STDERR_FILENO,
+            b"trial: DEPTH is a whole number of kilobits\n",
+        );
+        return;
+    };
+    let bucket = Bucket {
+        rate: Rate(rate),
+        depth: Depth(depth),
+    };
+    print_trial(bucket);
+}
+
+// The number that an argument stands for. A word with more digits than a 32-bit number has is none.
+fn argument(index: usize) -> NumberAnswer {
+    let mut word = [0u8; 10];
+    let length = os::arg(index, &mut word);
+    number_of(&word[..length])
+}
+
+fn print_trial(bucket: Bucket) {
+    let mut order = [0u8; ORDER_ROOM];
+    let length = read_order(&mut order);
+    let mut text = [0u8; 64];
+    let answer = trial_line(&order[..length], bucket, &mut text);
+    print(answer, &text);
+}
