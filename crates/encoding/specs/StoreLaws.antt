@@ -71,7 +71,7 @@ module _ {A : Type 0} (read : ℕ → A) (width n i at : ℕ) where
   items-none l = let e : n - i ≡ 0 = omega arith in ap (λ (m : ℕ). itemsAt read width m at) e
 
 -- … and of a list; d stands past its end.
-drop-next : {A : Type 0} (xs : List A) (i : ℕ) (d : A) → i < length xs → drop i xs ≡ getD xs i d ∷ drop (i + 1) xs
+pub drop-next : {A : Type 0} (xs : List A) (i : ℕ) (d : A) → i < length xs → drop i xs ≡ getD xs i d ∷ drop (i + 1) xs
 drop-next xs i d l = drop-cons xs i d l ∙ ap (λ (n : ℕ). getD xs i d ∷ drop n xs) (sym (add-one i))
 
 module _ {A : Type 0} (bytes : A → List ℕ) (xs : List A) (i : ℕ) where

@@ -1,0 +1,48 @@
+-- Decimal digits, and the number that a word of them stands for.
+-- Assumes nothing.
+use Prim.Native.Nat.{ℕ, zero, suc, _+_, _-_, _*_, _/_, _%_}
+use mathlib.Core.Bool.{Bool, cond, _&&_}
+use mathlib.Core.List.{List, [], _∷_, _++_}
+use mathlib.Core.Option.{Option, none, some, bind}
+use lib.Dec.{leb}
+use Rattle.order_text.specs.declared.digits.NumberAnswer.{NumberAnswer}
+use Rattle.order_text.specs.declared.digits.NumberAnswer.the-variants.{Number, NoNumber}
+use Rattle.order_text.specs.declared.digits.Push.{Push}
+use Rattle.order_text.specs.declared.digits.Push.the-variants.{Value, Above}
+
+-- the bytes `0` to `9`
+abbrev pub isDigit : ℕ → Bool
+isDigit b = leb 48 b && leb b 57
+
+-- A number with one more digit behind it, or none where this is above the limit.
+abbrev pub pushed : ℕ → ℕ → ℕ → Option ℕ
+pushed limit v b = let n = v * 10 + (b - 48) in cond (leb n limit) (some n) none
+
+-- a number of 32 bits
+abbrev pub numberLimit : ℕ
+numberLimit = 4294967295
+
+-- The number that digits stand for behind those of v; none where a byte is no digit.
+unfoldable pub numberFrom : ℕ → List ℕ → Option ℕ
+numberFrom v [] = some v
+numberFrom v (b ∷ bs) = cond (isDigit b) (bind (pushed numberLimit v b) (λ n. numberFrom n bs)) none
+
+-- The number that a word stands for: one or more digits and nothing else.
+abbrev pub numberIn : List ℕ → Option ℕ
+numberIn [] = none
+numberIn (b ∷ bs) = numberFrom 0 (b ∷ bs)
+
+-- The decimal digits of a number below 10 ^ w, the most significant first.
+unfoldable pub digitsOf : ℕ → ℕ → List ℕ
+digitsOf zero n = []
+digitsOf (suc w) n = cond (leb 10 n) (digitsOf w (n / 10)) [] ++ (48 + n % 10) ∷ []
+
+-- ---- The answers' cases
+
+abbrev pub numberSays : NumberAnswer → Option ℕ
+numberSays (Number n) = some n
+numberSays NoNumber = none
+
+abbrev pub pushSays : Push → Option ℕ
+pushSays (Value n) = some n
+pushSays Above = none

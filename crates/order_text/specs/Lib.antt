@@ -1,0 +1,9 @@
+-- The definitions that contracts cite, and their laws.
+pub mod Decimal
+pub mod DecimalLaws
+pub mod Text
+pub mod ScanLaws
+pub mod Cursors
+pub mod CursorLaws
+pub mod FigureLaws
+pub mod TextLaws

@@ -1,0 +1,176 @@
+-- An order typed as text: the scan of its bytes, the figures that it gives, and the order file of these.
+-- Assumes nothing.
+use Prim.Native.Nat.{ℕ, _+_}
+use mathlib.Core.Bool.{Bool, true, false, cond, not, _&&_, _||_}
+use mathlib.Core.List.{List, [], _∷_, _++_}
+use mathlib.Core.Option.{Option, none, some}
+use lib.Dec.{leb, eqb}
+use lib.ListN.{length, drop, getD}
+use Rattle.terms.specs.declared.Tariff.{Tariff}
+use Rattle.terms.specs.Answer.{Answer, figures, refused}
+use Rattle.terms.specs.Lent.{filled}
+use Rattle.terms.specs.Limits.{demandLimit, depthLimit, feeLimit, partsLimit, priceLimit, rateLimit, traceLimit}
+use Rattle.terms.specs.Ranges.{factorOk}
+use Rattle.terms.specs.Refusals.{numberOf}
+use Rattle.order_file.specs.Order.{writeOrder}
+use Rattle.order_text.specs.declared.faults.Cause.{Cause}
+use Rattle.order_text.specs.declared.faults.Cause.the-variants.{Byte, Above, Factor, Many, Few}
+use Rattle.order_text.specs.declared.faults.Fault.{Fault}
+use Rattle.order_text.specs.declared.orders.TextAnswer.{TextAnswer}
+use Rattle.order_text.specs.declared.orders.TextAnswer.the-variants.{Written, Faulty, Refused}
+use Rattle.order_text.specs.Decimal.{isDigit, pushed}
+
+-- What a text gives, or its first fault.
+pub data Reading (A : Type 0) : Type 0 where
+  read : A → Reading A
+  faulty : Fault → Reading A
+
+-- Something else worked out from what is read; a fault stays.
+abbrev pub onRead : {A B : Type 0} → (A → B) → Reading A → Reading B
+onRead f (read x) = read (f x)
+onRead f (faulty x) = faulty x
+
+-- Reading goes on from what is read; a fault stays.
+abbrev pub thenRead : {A B : Type 0} → Reading A → (A → Reading B) → Reading B
+thenRead (read x) next = next x
+thenRead (faulty x) next = faulty x
+
+-- ---- The figures
+
+-- The most that each figure of the tariff may be, in document 01's order; p is further held to q.
+abbrev pub tariffLimits : List ℕ
+tariffLimits = priceLimit ∷ priceLimit ∷ feeLimit ∷ partsLimit ∷ partsLimit ∷ rateLimit ∷ depthLimit ∷ []
+
+abbrev pub tariffFigures : ℕ
+tariffFigures = 7
+
+-- The demands come after the tariff.
+abbrev pub limitOf : ℕ → ℕ
+limitOf index = getD tariffLimits index demandLimit
+
+-- The figures of an order at the most.
+abbrev pub figuresLimit : ℕ
+figuresLimit = tariffFigures + traceLimit
+
+-- ---- The scan
+
+-- What the scan of a text has come to.
+pub record Scan : Type 0 where
+  -- the line that it is on, from 1
+  pub line : ℕ
+  -- whether a comment is open
+  pub comment : Bool
+  -- whether a figure is begun, and what its digits come to; 0 where none is
+  pub begun : Bool
+  pub value : ℕ
+  -- the figures that are read, first to last
+  pub figures : List ℕ
+
+abbrev pub started : Scan
+started = record { line = 1; comment = false; begun = false; value = 0; figures = [] }
+
+-- A fault here is about the figure that is begun or due.
+abbrev pub faultAt : Cause → Scan → Fault
+faultAt cause s = record { line = s .line; figure = length (s .figures); cause = cause }
+
+abbrev pub newline : ℕ
+newline = 10
+
+abbrev pub hash : ℕ
+hash = 35
+
+-- What may stand right behind a figure: a space, a tab, a carriage return, a newline, the # of a comment.
+abbrev pub endsFigure : ℕ → Bool
+endsFigure b = eqb b 32 || eqb b 9 || eqb b 13 || eqb b newline || eqb b hash
+
+-- Past a byte that belongs to no figure: a newline ends the line and a comment, a # opens one.
+abbrev pub passed : Scan → ℕ → Scan
+passed s b =
+    record {
+      line = cond (eqb b newline) (s .line + 1) (s .line);
+      comment = not (eqb b newline) && (s .comment || eqb b hash);
+      begun = s .begun;
+      value = s .value;
+      figures = s .figures;
+    }
+
+-- The figure that is begun comes to n.
+abbrev pub withValue : Scan → ℕ → Scan
+withValue s n = record { line = s .line; comment = s .comment; begun = true; value = n; figures = s .figures }
+
+abbrev pub unlessAbove : Scan → Option ℕ → Reading Scan
+unlessAbove s none = faulty (faultAt Above s)
+unlessAbove s (some n) = read (withValue s n)
+
+-- A digit goes to the figure that is begun, or begins one.
+abbrev pub withDigit : Scan → ℕ → Reading Scan
+withDigit s b =
+    let index = length (s .figures) in
+    cond (leb figuresLimit index) (faulty (faultAt Many s)) (unlessAbove s (pushed (limitOf index) (s .value) b))
+
+-- The figure that is begun goes behind those that are read.
+abbrev pub withFigure : Scan → Scan
+withFigure s = record { line = s .line; comment = s .comment; begun = false; value = 0; figures = s .figures ++ s .value ∷ [] }
+
+-- Figure 4 is q, and figure 3 before it p.
+abbrev pub factorStands : ℕ → ℕ → ℕ → Bool
+factorStands index p q = not (eqb index 4) || factorOk (record { p = p; q = q })
+
+-- The figure that is begun, if one is, ends.
+abbrev pub closed : Scan → Reading Scan
+closed s =
+    let stands = factorStands (length (s .figures)) (getD (s .figures) 3 0) (s .value) in
+    cond (s .begun) (cond stands (read (withFigure s)) (faulty (faultAt Factor s))) (read s)
+
+-- One byte more.
+abbrev pub afterByte : Scan → ℕ → Reading Scan
+afterByte s b =
+    cond (s .comment) (read (passed s b))
+    (cond (isDigit b) (withDigit s b)
+    (cond (endsFigure b) (onRead (λ t. passed t b) (closed s))
+    (faulty (faultAt Byte s))))
+
+unfoldable pub scanned : Scan → List ℕ → Reading Scan
+scanned s [] = read s
+scanned s (b ∷ bs) = thenRead (afterByte s b) (λ t. scanned t bs)
+
+-- The seven figures of the tariff and at least one demand. A text that ends with a newline ends on the line after it.
+abbrev pub enough : Scan → Reading (List ℕ)
+enough s = cond (leb (tariffFigures + 1) (length (s .figures))) (read (s .figures)) (faulty (faultAt Few s))
+
+-- The figures of a text; its end ends a figure that is begun.
+unfoldable pub figuresOf : List ℕ → Reading (List ℕ)
+figuresOf text = thenRead (thenRead (scanned started text) closed) enough
+
+-- ---- The order
+
+-- The tariff of the first seven figures.
+abbrev pub tariffOf : List ℕ → Tariff
+tariffOf ns =
+    record {
+      «rate_price» = record { 0 = getD ns 0 0 };
+      «depth_price» = record { 0 = getD ns 1 0 };
+      fee = getD ns 2 0;
+      factor = record { p = getD ns 3 0; q = getD ns 4 0 };
+      «rate_cap» = record { 0 = getD ns 5 0 };
+      «depth_cap» = record { 0 = getD ns 6 0 };
+    }
+
+-- The demands behind them.
+abbrev pub demandsOf : List ℕ → List ℕ
+demandsOf ns = drop tariffFigures ns
+
+-- The order file of a text, for lent bytes of this room.
+abbrev pub fileOf : ℕ → List ℕ → Reading (Answer (List ℕ))
+fileOf room text = onRead (λ ns. writeOrder room (tariffOf ns) (demandsOf ns)) (figuresOf text)
+
+-- The file fills the front of lent bytes; a fault changes nothing.
+abbrev pub filledBy : Reading (Answer (List ℕ)) → List ℕ → List ℕ
+filledBy (read a) old = filled a old
+filledBy (faulty x) old = old
+
+-- Each case of the answer in these values and document 01's numbers.
+abbrev pub textSays : TextAnswer → Reading (Answer ℕ)
+textSays (Written n) = read (figures n)
+textSays (Faulty x) = faulty x
+textSays (Refused x) = read (refused (numberOf x))

@@ -1,0 +1,42 @@
+-- What a text gives in lent bytes: nothing on a fault, and else the order file of its figures.
+-- Assumes nothing.
+use Prim.Native.Nat.{ℕ, _≤_}
+use mathlib.Core.Path.{_≡_, sym, ap, ap₂, _∙_}
+use mathlib.Core.List.{List}
+use lib.ListN.{length, take, drop}
+use lib.Seq.{sets, take-at}
+use Rattle.terms.specs.declared.Tariff.{Tariff}
+use Rattle.terms.specs.Answer.{Answer, onFigures}
+use Rattle.terms.specs.Lent.{filled}
+use Rattle.encoding.specs.StoreLaws.{sets-front}
+use Rattle.order_file.specs.Order.{writeOrder}
+use Rattle.order_text.specs.declared.faults.Fault.{Fault}
+use Rattle.order_text.specs.Text.{Reading, read, faulty, onRead, figuresOf, tariffOf, demandsOf, fileOf, filledBy}
+
+-- Demands that are copied to the front of a list are its front.
+pub copied-front : (xs old new : List ℕ) (n : ℕ) → n ≡ length xs → length xs ≤ length old → new ≡ sets old 0 xs → take n new ≡ xs
+copied-front xs old new n l room e = ap (take n) (e ∙ sets-front xs old room) ∙ take-at xs (drop (length xs) old) n (sym l)
+
+-- The order of these figures, written with what equals its tariff and its demands.
+pub order-written : (ns old : List ℕ) (t : Tariff) (ds : List ℕ) (r : Reading (Answer ℕ)) (n : Answer ℕ) (new : List ℕ) → t ≡ tariffOf ns → ds ≡ demandsOf ns
+    → r ≡ read n → n ≡ onFigures length (writeOrder (length old) t ds) → new ≡ filled (writeOrder (length old) t ds) old
+    → (r ≡ read (onFigures length (writeOrder (length old) (tariffOf ns) (demandsOf ns)))) × (new ≡ filled (writeOrder (length old) (tariffOf ns) (demandsOf ns)) old)
+order-written ns old t ds r n new et ed er en e =
+    let same = ap₂ (λ (u : Tariff) (xs : List ℕ). writeOrder (length old) u xs) et ed in
+    (er ∙ ap read en ∙ ap (λ (a : Answer (List ℕ)). read (onFigures length a)) same, e ∙ ap (λ (a : Answer (List ℕ)). filled a old) same)
+
+module _ (text old : List ℕ) where
+  abbrev written : List ℕ → Answer (List ℕ)
+  written ns = writeOrder (length old) (tariffOf ns) (demandsOf ns)
+
+  -- r is answered, and the bytes that held `old` hold `new`.
+  abbrev pub Gives : Reading (Answer ℕ) → List ℕ → Type 0
+  Gives r new = (r ≡ onRead (onFigures length) (fileOf (length old) text)) × (new ≡ filledBy (fileOf (length old) text) old)
+
+  pub gives-fault : (x : Fault) → figuresOf text ≡ faulty x → Gives (faulty x) old
+  gives-fault x e =
+      (sym (ap (λ (a : Reading (List ℕ)). onRead (onFigures length) (onRead written a)) e), sym (ap (λ (a : Reading (List ℕ)). filledBy (onRead written a) old) e))
+
+  pub gives-file : (ns : List ℕ) (r : Reading (Answer ℕ)) (new : List ℕ) → figuresOf text ≡ read ns → r ≡ read (onFigures length (written ns)) → new ≡ filled (written ns) old → Gives r new
+  gives-file ns r new e f g =
+      (f ∙ sym (ap (λ (a : Reading (List ℕ)). onRead (onFigures length) (onRead written a)) e), g ∙ sym (ap (λ (a : Reading (List ℕ)). filledBy (onRead written a) old) e))

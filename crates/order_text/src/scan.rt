@@ -1,0 +1,184 @@
+// The scan of a text, byte by byte. A cursor says where it has come to; the figures read so far lie
+// at the front of a list that is lent.
+use crate::digits::Push;
+use crate::digits::is_digit;
+use crate::digits::push_digit;
+use crate::faults::Cause;
+use crate::faults::Fault;
+use crate::figures::FIGURES_LIMIT;
+use crate::figures::TARIFF_FIGURES;
+use crate::figures::factor_stands;
+use crate::figures::limit_of;
+ghost use Prim.Native.Nat.{_<_};
+ghost use mathlib.Core.Path.{_≡_};
+ghost use mathlib.Core.Bool.{true};
+ghost use lib.ListN.{length};
+ghost use Rattle.order_text.specs.Decimal.{isDigit};
+ghost use Rattle.order_text.specs.Text.{afterByte, closed, endsFigure, faultAt, faulty, figuresLimit, figuresOf, onRead, scanned, started, withDigit};
+ghost use Rattle.order_text.specs.Cursors.{Fits, Passes, StepFits, Steps, lineLimit, scanOf, stepSays};
+
+pub(crate) struct Cursor {
+    // the line that the scan is on, from 1
+    pub line: usize,
+    // whether a comment is open
+    pub comment: bool,
+    // whether a figure is begun, and what its digits come to; 0 where none is
+    pub begun: bool,
+    pub value: u32,
+    // how many figures are read
+    pub count: usize,
+}
+
+pub(crate) enum Step {
+    On(Cursor),
+    Faulty(Fault),
+}
+
+// Reads the figures of a text into the front of the list, or finds its first fault. The end of the
+// text ends a figure that is begun.
+pub(crate) fn read_figures(text: &[u8], figures: &mut [u32]) -> Step
+    requires { ⌜ length (now figures) ≡ figuresLimit ⌝ }
+    ensures { λ r. ⌜ onRead (λ s. s .figures) (stepSays r (now (figures .exit))) ≡ figuresOf (now (text .entry)) ⌝ }
+    ensures { λ r. ⌜ StepFits r ⌝ }
+{
+    let at = match scan(text, figures) {
+        Step::On(at) => at,
+        Step::Faulty(fault) => return Step::Faulty(fault),
+    };
+    let at = match close(at, figures) {
+        Step::On(at) => at,
+        Step::Faulty(fault) => return Step::Faulty(fault),
+    };
+    if at.count <= TARIFF_FIGURES {
+        return fault_at(at, Cause::Few);
+    }
+    Step::On(at)
+}
+
+// Scans the whole text, or up to its first fault.
+fn scan(text: &[u8], figures: &mut [u32]) -> Step
+    requires { ⌜ length (now figures) ≡ figuresLimit ⌝ }
+    ensures { λ r. ⌜ stepSays r (now (figures .exit)) ≡ scanned started (now (text .entry)) ⌝ }
+    ensures { λ r. ⌜ StepFits r ⌝ }
+{
+    let mut at = Cursor {
+        line: 1,
+        comment: false,
+        begun: false,
+        value: 0,
+        count: 0,
+    };
+    let mut i = 0;
+    while i < text.len() {
+        at = match after_byte(at, text[i], figures) {
+            Step::On(next) => next,
+            Step::Faulty(fault) => return Step::Faulty(fault),
+        };
+        i += 1;
+    }
+    Step::On(at)
+}
+
+// One byte more: a comment runs to the end of its line, a digit goes to a figure, and what may
+// stand between figures ends one that is begun.
+fn after_byte(at: Cursor, byte: u8, figures: &mut [u32]) -> Step
+    requires { ⌜ length (now figures) ≡ figuresLimit ⌝ }
+    requires { ⌜ Fits at ⌝ }
+    requires { ⌜ at .line < lineLimit ⌝ }
+    ensures { λ r. ⌜ stepSays r (now (figures .exit)) ≡ afterByte (scanOf at (now (figures .entry))) byte ⌝ }
+    ensures { λ r. ⌜ StepFits r ⌝ }
+{
+    if at.comment {
+        return Step::On(pass(at, byte));
+    }
+    if is_digit(byte) {
+        return with_digit(at, byte);
+    }
+    if !ends_figure(byte) {
+        return fault_at(at, Cause::Byte);
+    }
+    match close(at, figures) {
+        Step::On(next) => Step::On(pass(next, byte)),
+        Step::Faulty(fault) => Step::Faulty(fault),
+    }
+}
+
+// Whether a byte may stand right behind a figure: a space, a tab, a carriage return, a newline, or
+// the # of a comment.
+fn ends_figure(byte: u8) -> bool
+    ensures { λ r. ⌜ r ≡ endsFigure byte ⌝ }
+{
+    (byte == 32) | (byte == 9) | (byte == 13) | (byte == 10) | (byte == 35)
+}
+
+// Past a byte that belongs to no figure: a newline ends the line and a comment, a # opens one.
+fn pass(at: Cursor, byte: u8) -> Cursor
+    requires { ⌜ at .line < lineLimit ⌝ }
+    ensures { λ r. ⌜ Passes byte at r ⌝ }
+{
+    let mut next = at;
+    if byte == 10 {
+        next.line = at.line + 1;
+        next.comment = false;
+        return next;
+    }
+    next.comment = at.comment | (byte == 35);
+    next
+}
+
+// A digit goes to the figure that is begun, or begins one.
+fn with_digit(at: Cursor, byte: u8) -> Step
+    requires { ⌜ Fits at ⌝ }
+    requires { ⌜ isDigit byte ≡ true ⌝ }
+    ensures { λ r. ⌜ Steps (λ s. withDigit s byte) at r ⌝ }
+{
+    if FIGURES_LIMIT <= at.count {
+        return fault_at(at, Cause::Many);
+    }
+    let Push::Value(value) = push_digit(at.value, byte, limit_of(at.count)) else {
+        return fault_at(at, Cause::Above);
+    };
+    Step::On(Cursor {
+        line: at.line,
+        comment: at.comment,
+        begun: true,
+        value,
+        count: at.count,
+    })
+}
+
+// Ends the figure that is begun, if one is: it goes behind the figures read.
+fn close(at: Cursor, figures: &mut [u32]) -> Step
+    requires { ⌜ length (now figures) ≡ figuresLimit ⌝ }
+    requires { ⌜ Fits at ⌝ }
+    ensures { λ r. ⌜ stepSays r (now (figures .exit)) ≡ closed (scanOf at (now (figures .entry))) ⌝ }
+    ensures { λ r. ⌜ StepFits r ⌝ }
+{
+    if !at.begun {
+        return Step::On(at);
+    }
+    let index = at.count;
+    if !factor_stands(index, figures[3], at.value) {
+        return fault_at(at, Cause::Factor);
+    }
+    figures[index] = at.value;
+    Step::On(Cursor {
+        line: at.line,
+        comment: at.comment,
+        begun: false,
+        value: 0,
+        count: index + 1,
+    })
+}
+
+// A fault of this cause where the scan is.
+fn fault_at(at: Cursor, cause: Cause) -> Step
+    requires { ⌜ Fits at ⌝ }
+    ensures { λ r. ⌜ Steps (λ s. faulty (faultAt cause s)) at r ⌝ }
+{
+    Step::Faulty(Fault {
+        line: at.line,
+        figure: at.count,
+        cause,
+    })
+}
