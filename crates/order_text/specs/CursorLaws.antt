@@ -20,7 +20,7 @@ use Rattle.order_text.specs.declared.scan.Step.{Step}
 use Rattle.order_text.specs.declared.scan.Step.the-variants.{On, Faulty}
 use Rattle.order_text.specs.Decimal.{pushed}
 use Rattle.order_text.specs.Text.{read, faulty, limitOf, figuresLimit, factorStands, started, faultAt, newline, hash, unlessAbove, withDigit, closed, afterByte, scanned}
-use Rattle.order_text.specs.ScanLaws.{digit-many, digit-value, closed-idle, closed-factor, closed-figure, goes, goes-line, scanned-next, scanned-end}
+use Rattle.order_text.specs.ScanLaws.{digit-many, digit-value, closed-factor, closed-figure, goes, goes-line, scanned-next, scanned-end}
 use Rattle.order_text.specs.Cursors.{scanOf, stepSays, Fits, StepFits, Steps, Passes}
 
 pub count-is : (c : Cursor) (xs : List ℕ) → Fits c → length xs ≡ figuresLimit → length (take (c .count) xs) ≡ c .count
@@ -86,9 +86,6 @@ module _ (c : Cursor) (xs : List ℕ) (f : Fits c) (l : length xs ≡ figuresLim
       go true e =
           let m = eqb-true (c .count) 4 e in
           ap (λ (p : ℕ). factorStands (c .count) p (c .value)) (sym (getD-take (c .count) xs 3 0 (omega (arith, m))))
-
-  pub close-idle : c .begun ≡ false → read (scanOf c xs) ≡ closed (scanOf c xs)
-  close-idle h = sym (closed-idle (scanOf c xs) h)
 
   module _ (begun : c .begun ≡ true) where
     pub close-factor : (r : Step) → factorStands (c .count) (getD xs 3 0) (c .value) ≡ false → Steps (λ s. faulty (faultAt Factor s)) c r → stepSays r xs ≡ closed (scanOf c xs)

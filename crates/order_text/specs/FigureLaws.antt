@@ -3,7 +3,7 @@
 -- Assumes nothing.
 use Prim.Native.Nat.{ℕ, zero, suc, _+_, _≤_, _<_}
 use native.Mathlib.Omega.{arith}
-use mathlib.Core.Path.{_≡_, refl, sym, ap, ap₂, subst, _∙_}
+use mathlib.Core.Path.{_≡_, refl, sym, ap₂, subst, _∙_}
 use mathlib.Core.Bool.{Bool, true, false, cond, not, _||_}
 use mathlib.Core.List.{List, [], _∷_, _++_}
 use borrow.Author.Tests.{leb-true, leb-false, le-leb, lt-leb, eq-eqb}
@@ -144,5 +144,5 @@ module _ (ns : List ℕ) (f : Figures ns) where
       → writeOrder room (tariffOf ns) (demandsOf ns) ≡ figures (orderBytes (length (demandsOf ns)) (tariffOf ns) (demandsOf ns))
   figures-written room l = write-figures room _ _ (periods-ok _ periods-fit) (tariff-ok _ tariff-fits) (le-leb _ _ l)
 
-  pub figures-refused : (room : ℕ) → room < orderLength (length (demandsOf ns)) → writeOrder room (tariffOf ns) (demandsOf ns) ≡ refused 6
-  figures-refused room l = write-room room _ _ (periods-ok _ periods-fit) (tariff-ok _ tariff-fits) (lt-leb _ _ l)
+  pub figures-short : (room : ℕ) → room < orderLength (length (demandsOf ns)) → writeOrder room (tariffOf ns) (demandsOf ns) ≡ refused 6
+  figures-short room l = write-room room _ _ (periods-ok _ periods-fit) (tariff-ok _ tariff-fits) (lt-leb _ _ l)

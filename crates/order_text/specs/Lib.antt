@@ -7,3 +7,4 @@ pub mod Cursors
 pub mod CursorLaws
 pub mod FigureLaws
 pub mod TextLaws
+pub mod PlainLaws

@@ -4,14 +4,14 @@ use Prim.Native.Nat.{ℕ, zero, suc, _+_, _≤_, _<_}
 use native.Mathlib.Omega.{arith}
 use mathlib.Core.Path.{_≡_, refl, sym, ap, subst, _∙_}
 use mathlib.Core.Bool.{Bool, true, false, cond}
-use mathlib.Core.List.{List, [], _∷_}
+use mathlib.Core.List.{List}
 use mathlib.Core.Option.{Option, none, some}
 use borrow.Author.Tests.{leb-false, le-leb, lt-leb}
 use lib.Dec.{leb, eqb}
 use lib.ListN.{length, drop, getD, drop-of-length-le, List·getD-eq-default}
 use Rattle.terms.specs.Limits.{priceLimit, partsLimit, demandLimit}
 use Rattle.encoding.specs.StoreLaws.{drop-next}
-use Rattle.order_text.specs.declared.faults.Cause.the-variants.{Byte, Above, Factor, Many, Few}
+use Rattle.order_text.specs.declared.faults.Cause.the-variants.{Byte, Factor, Many, Few}
 use Rattle.order_text.specs.declared.faults.Fault.{Fault}
 use Rattle.order_text.specs.Decimal.{isDigit, pushed}
 use Rattle.order_text.specs.Text.{Reading, read, faulty, onRead, thenRead, tariffLimits, tariffFigures, limitOf, figuresLimit, factorStands, Scan, started, faultAt, newline, endsFigure, passed, withValue, unlessAbove, withDigit, withFigure, closed, afterByte, scanned, enough, figuresOf}

@@ -12,13 +12,14 @@ use Rattle.terms.specs.Lent.{filled}
 use Rattle.terms.specs.Limits.{demandLimit, depthLimit, feeLimit, partsLimit, priceLimit, rateLimit, traceLimit}
 use Rattle.terms.specs.Ranges.{factorOk}
 use Rattle.terms.specs.Refusals.{numberOf}
+use Rattle.encoding.specs.Number.{bytesOfAll}
 use Rattle.order_file.specs.Order.{writeOrder}
 use Rattle.order_text.specs.declared.faults.Cause.{Cause}
 use Rattle.order_text.specs.declared.faults.Cause.the-variants.{Byte, Above, Factor, Many, Few}
 use Rattle.order_text.specs.declared.faults.Fault.{Fault}
 use Rattle.order_text.specs.declared.orders.TextAnswer.{TextAnswer}
 use Rattle.order_text.specs.declared.orders.TextAnswer.the-variants.{Written, Faulty, Refused}
-use Rattle.order_text.specs.Decimal.{isDigit, pushed}
+use Rattle.order_text.specs.Decimal.{isDigit, pushed, digitsLimit, digitsOf}
 
 -- What a text gives, or its first fault.
 pub data Reading (A : Type 0) : Type 0 where
@@ -122,7 +123,8 @@ closed s =
     let stands = factorStands (length (s .figures)) (getD (s .figures) 3 0) (s .value) in
     cond (s .begun) (cond stands (read (withFigure s)) (faulty (faultAt Factor s))) (read s)
 
--- One byte more.
+-- One byte more: a comment passes over it; else a digit goes to a figure, what may stand behind a figure ends one that is
+-- begun, and any other byte is a fault.
 abbrev pub afterByte : Scan → ℕ → Reading Scan
 afterByte s b =
     cond (s .comment) (read (passed s b))
@@ -141,6 +143,10 @@ enough s = cond (leb (tariffFigures + 1) (length (s .figures))) (read (s .figure
 -- The figures of a text; its end ends a figure that is begun.
 unfoldable pub figuresOf : List ℕ → Reading (List ℕ)
 figuresOf text = thenRead (thenRead (scanned started text) closed) enough
+
+-- The plain text of figures: the digits of each, and a newline.
+abbrev pub plainText : List ℕ → List ℕ
+plainText ns = bytesOfAll (λ n. digitsOf digitsLimit n ++ newline ∷ []) ns
 
 -- ---- The order
 

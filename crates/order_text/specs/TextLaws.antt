@@ -1,17 +1,25 @@
--- What a text gives in lent bytes: nothing on a fault, and else the order file of its figures.
+-- What a text gives in lent bytes: nothing on a fault, and else the order file of its figures, which reads back as them and
+-- is refused only for want of bytes.
 -- Assumes nothing.
 use Prim.Native.Nat.{ℕ, _≤_}
-use mathlib.Core.Path.{_≡_, sym, ap, ap₂, _∙_}
+use mathlib.Core.Path.{_≡_, refl, sym, ap, ap₂, _∙_}
+use mathlib.Core.Bool.{Bool, true, false}
 use mathlib.Core.List.{List}
+use borrow.Author.Tests.{leb-true, leb-false}
+use lib.Dec.{leb}
 use lib.ListN.{length, take, drop}
 use lib.Seq.{sets, take-at}
 use Rattle.terms.specs.declared.Tariff.{Tariff}
-use Rattle.terms.specs.Answer.{Answer, onFigures}
+use Rattle.terms.specs.Answer.{Answer, figures, refused, onFigures}
+use Rattle.terms.specs.AnswerLaws.{figures-refused, same-refusal}
 use Rattle.terms.specs.Lent.{filled}
 use Rattle.encoding.specs.StoreLaws.{sets-front}
-use Rattle.order_file.specs.Order.{writeOrder}
+use Rattle.order_file.specs.Order.{orderLength, writeOrder}
+use Rattle.order_file.specs.OrderLaws.{ReadsBack, write-read}
 use Rattle.order_text.specs.declared.faults.Fault.{Fault}
 use Rattle.order_text.specs.Text.{Reading, read, faulty, onRead, figuresOf, tariffOf, demandsOf, fileOf, filledBy}
+use Rattle.order_text.specs.ScanLaws.{on-read}
+use Rattle.order_text.specs.FigureLaws.{Figures, text-figures, demands-fit, figures-written, figures-short}
 
 -- Demands that are copied to the front of a list are its front.
 pub copied-front : (xs old new : List ℕ) (n : ℕ) → n ≡ length xs → length xs ≤ length old → new ≡ sets old 0 xs → take n new ≡ xs
@@ -40,3 +48,23 @@ module _ (text old : List ℕ) where
   pub gives-file : (ns : List ℕ) (r : Reading (Answer ℕ)) (new : List ℕ) → figuresOf text ≡ read ns → r ≡ read (onFigures length (written ns)) → new ≡ filled (written ns) old → Gives r new
   gives-file ns r new e f g =
       (f ∙ sym (ap (λ (a : Reading (List ℕ)). onRead (onFigures length) (onRead written a)) e), g ∙ sym (ap (λ (a : Reading (List ℕ)). filledBy (onRead written a) old) e))
+
+-- ---- The file of a text
+
+-- A file that is written reads back as the figures of the text.
+pub text-read-back : (room : ℕ) (text bs : List ℕ) → fileOf room text ≡ read (figures bs) → (ns : List ℕ) × (figuresOf text ≡ read ns) × ReadsBack (tariffOf ns) (demandsOf ns) bs
+text-read-back room text bs e =
+    let a = on-read (λ ns. writeOrder room (tariffOf ns) (demandsOf ns)) (figuresOf text) e in
+    (a .0, a .1, write-read room (tariffOf (a .0)) (demandsOf (a .0)) bs (demands-fit (a .0) (text-figures text (a .0) (a .1))) (a .2))
+
+-- A text that has no fault is refused only where the bytes are fewer than the file, by number 6.
+pub text-refused : (room n : ℕ) (text : List ℕ) → fileOf room text ≡ read (refused n) → n ≡ 6
+text-refused room n text e =
+    let a = on-read (λ ns. writeOrder room (tariffOf ns) (demandsOf ns)) (figuresOf text) e in
+    let f = text-figures text (a .0) (a .1) in
+    let size = orderLength (length (demandsOf (a .0))) in
+    go (a .0) f (a .2) (leb size room) refl
+  where
+    go : (ns : List ℕ) → Figures ns → writeOrder room (tariffOf ns) (demandsOf ns) ≡ refused n → (t : Bool) → leb (orderLength (length (demandsOf ns))) room ≡ t → n ≡ 6
+    go ns f k true h = absurd (figures-refused (sym (figures-written ns f room (leb-true _ _ h)) ∙ k))
+    go ns f k false h = same-refusal (sym k ∙ figures-short ns f room (leb-false _ _ h))

@@ -1,11 +1,12 @@
 -- The figure goes to the place behind those read, which is inside the list while a figure is begun.
 use native.Mathlib.Omega.{arith}
-use mathlib.Core.Path.{_≡_}
+use mathlib.Core.Path.{_≡_, sym}
 use mathlib.Core.Bool.{true}
 use borrow.Author.Needs.{needs}
 use borrow.Author.Tests.{not-true, not-false}
 use Rattle.terms.specs.Bools.{check-passed, check-failed}
-use Rattle.order_text.specs.CursorLaws.{close-idle, close-factor, close-figure, close-fits}
+use Rattle.order_text.specs.ScanLaws.{closed-idle}
+use Rattle.order_text.specs.CursorLaws.{close-factor, close-figure, close-fits}
 use Rattle.order_text.proofs.scan.close.Statement.{statement}
 use Rattle.order_text.proofs.scan.close.Tie as tie
 
@@ -15,7 +16,7 @@ begun c = not-false _ (c .if1 .left)
 returns : tie.Need-returns
 returns c =
     let s = c .before .before .before in
-    (close-idle _ _ (s .pre .1) (s .pre .0) (not-true _ (c .if1 .taken)), s .pre .1)
+    (sym (closed-idle _ (not-true _ (c .if1 .taken))), s .pre .1)
 
 slice-read-factor-stands : tie.Need-slice-read-factor-stands
 slice-read-factor-stands c = search needs

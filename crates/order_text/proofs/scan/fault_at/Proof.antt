@@ -1,5 +1,4 @@
 -- As many figures are read as the cursor counts.
-use borrow.Author.Needs.{needs}
 use Rattle.order_text.specs.CursorLaws.{fault-steps}
 use Rattle.order_text.proofs.scan.fault_at.Statement.{statement}
 use Rattle.order_text.proofs.scan.fault_at.Tie as tie
