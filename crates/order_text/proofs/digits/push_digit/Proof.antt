@@ -19,13 +19,13 @@ add-next : tie.Need-add-next
 add-next c = search needs
 
 returns : tie.Need-returns
-returns c = sym (push-above _ _ _ (c .if1 .taken))
+returns c = sym (push-above (c .before .args .limit) (c .before .args .value) (c .before .args .byte) (omega (arith, c .if1 .taken)))
 
 cast-t10 : tie.Need-cast-t10
 cast-t10 c = search needs
 
 returns-2 : tie.Need-returns-2
-returns-2 c = sym (push-within _ _ _ (c .if1 .left))
+returns-2 c = sym (push-within (c .before .args .limit) (c .before .args .value) (c .before .args .byte) (omega (arith, c .if1 .left)))
 
 pub push-digit-spec : {M : Type 1} → statement M
 push-digit-spec = tie.close (tie.spec mul-next sub-next cast-next add-next returns cast-t10 returns-2)

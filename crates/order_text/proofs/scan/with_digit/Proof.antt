@@ -1,5 +1,6 @@
 -- The number of figures and the limit decide, in the code as in the definition.
 use Prim.Native.Nat.{ℕ}
+use native.Mathlib.Omega.{arith}
 use mathlib.Core.Path.{_≡_, sym, ap, _∙_}
 use borrow.Author.Needs.{needs}
 use Rattle.order_text.specs.Decimal.{pushed, pushSays}
@@ -19,7 +20,7 @@ fault-at-requires : tie.Need-fault-at-requires
 fault-at-requires c κs = search needs
 
 returns : tie.Need-returns
-returns c = many-steps _ _ (c .before .before .before .pre .0) _ (c .before .if1 .taken) (c .fault-at .ensures)
+returns c = many-steps (c .before .before .before .args .at) _ (c .before .before .before .pre .0) _ (omega (arith, c .before .if1 .taken)) (c .fault-at .ensures)
 
 limit-of-requires : tie.Need-limit-of-requires
 limit-of-requires c κs = search needs
@@ -41,14 +42,14 @@ returns-2 c =
     let p = c .before .before .before in
     let e = p .before .before in
     let s = e .before .before in
-    above-steps _ _ (s .pre .0) (e .if1 .left) _ (comes-to p ∙ ap pushSays (c .before .enum-told .given .1)) (c .fault-at2 .ensures)
+    above-steps (s .args .at) _ (s .pre .0) (omega (arith, e .if1 .left)) _ (comes-to p ∙ ap pushSays (c .before .enum-told .given .1)) (c .fault-at2 .ensures)
 
 returns-3 : tie.Need-returns-3
 returns-3 c =
     let p = c .before .before .before in
     let e = p .before .before in
     let s = e .before .before in
-    digit-steps _ _ (s .pre .0) (e .if1 .left) _ (comes-to p ∙ ap pushSays (c .before .value .given .1))
+    digit-steps (s .args .at) _ (s .pre .0) (omega (arith, e .if1 .left)) _ (comes-to p ∙ ap pushSays (c .before .value .given .1))
 
 pub with-digit-spec : {M : Type 1} → statement M
 with-digit-spec =
