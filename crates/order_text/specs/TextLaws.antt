@@ -2,6 +2,7 @@
 -- is refused only for want of bytes.
 -- Assumes nothing.
 use Prim.Native.Nat.{ℕ, _≤_}
+use native.Mathlib.Omega.{arith}
 use mathlib.Core.Path.{_≡_, refl, sym, ap, ap₂, _∙_}
 use mathlib.Core.Bool.{Bool, true, false}
 use mathlib.Core.List.{List}
@@ -11,11 +12,12 @@ use lib.ListN.{length, take, drop}
 use lib.Seq.{sets, take-at}
 use Rattle.terms.specs.declared.Tariff.{Tariff}
 use Rattle.terms.specs.Answer.{Answer, figures, refused, onFigures}
-use Rattle.terms.specs.AnswerLaws.{figures-refused, same-refusal}
+use Rattle.terms.specs.AnswerLaws.{figures-refused, same-figures, same-refusal, on-figures}
 use Rattle.terms.specs.Lent.{filled}
 use Rattle.encoding.specs.StoreLaws.{sets-front}
 use Rattle.order_file.specs.Order.{orderLength, writeOrder}
 use Rattle.order_file.specs.OrderLaws.{ReadsBack, write-read}
+use Rattle.order_file.specs.OrderRules.{length-order}
 use Rattle.order_text.specs.declared.faults.Fault.{Fault}
 use Rattle.order_text.specs.Text.{Reading, read, faulty, onRead, figuresOf, tariffOf, demandsOf, fileOf, filledBy}
 use Rattle.order_text.specs.ScanLaws.{on-read}
@@ -56,6 +58,23 @@ pub text-read-back : (room : ℕ) (text bs : List ℕ) → fileOf room text ≡ 
 text-read-back room text bs e =
     let a = on-read (λ ns. writeOrder room (tariffOf ns) (demandsOf ns)) (figuresOf text) e in
     (a .0, a .1, write-read room (tariffOf (a .0)) (demandsOf (a .0)) bs (demands-fit (a .0) (text-figures text (a .0) (a .1))) (a .2))
+
+-- What is written lies inside the bytes.
+pub written-inside : (room n : ℕ) (text : List ℕ) → read (figures n) ≡ onRead (onFigures length) (fileOf room text) → n ≤ room
+written-inside room n text e =
+    let a = on-read (onFigures length) (fileOf room text) (sym e) in
+    let b = on-figures length (a .0) (a .2) in
+    let c = on-read (λ ns. writeOrder room (tariffOf ns) (demandsOf ns)) (figuresOf text) (a .1) in
+    let f = text-figures text (c .0) (c .1) in
+    omega (arith, go (c .0) f (b .0) (c .2 ∙ b .1) (leb (orderLength (length (demandsOf (c .0)))) room) refl, b .2)
+  where
+    go : (ns : List ℕ) → Figures ns → (bs : List ℕ) → writeOrder room (tariffOf ns) (demandsOf ns) ≡ figures bs
+        → (t : Bool) → leb (orderLength (length (demandsOf ns))) room ≡ t → length bs ≤ room
+    go ns f bs k true h =
+        let l = leb-true (orderLength (length (demandsOf ns))) room h in
+        let e = same-figures (sym (figures-written ns f room l) ∙ k) in
+        omega (arith, ap length e, length-order (length (demandsOf ns)) (tariffOf ns) (demandsOf ns))
+    go ns f bs k false h = absurd (figures-refused (sym k ∙ figures-short ns f room (leb-false _ _ h)))
 
 -- A text that has no fault is refused only where the bytes are fewer than the file, by number 6.
 pub text-refused : (room n : ℕ) (text : List ℕ) → fileOf room text ≡ read (refused n) → n ≡ 6

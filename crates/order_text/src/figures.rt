@@ -25,8 +25,8 @@ pub(crate) const TARIFF_FIGURES: usize = 7;
 // The figures of an order at the most.
 pub(crate) const FIGURES_LIMIT: usize = TARIFF_FIGURES + TRACE_LIMIT;
 
-// The most that a figure may be; index 0 is the rate price, and 7 the first demand.
-pub(crate) fn limit_of(index: usize) -> u32
+// The most that a figure may be: index 0 is the rate price, and from 7 on stand the demands.
+pub fn limit_of(index: usize) -> u32
     ensures { λ r. ⌜ r ≡ limitOf index ⌝ }
 {
     match index {

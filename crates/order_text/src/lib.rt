@@ -10,5 +10,6 @@ pub use digits::NumberAnswer;
 pub use digits::number_of;
 pub use faults::Cause;
 pub use faults::Fault;
+pub use figures::limit_of;
 pub use orders::TextAnswer;
 pub use orders::order_of_text;

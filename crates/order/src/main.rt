@@ -1,0 +1,39 @@
+// Reads an order typed as text on standard input and writes its order file to standard output; or
+// writes nothing there, and one line on standard error that says what is wrong and where. Text has
+// at most 65,535 bytes.
+mod faults;
+
+use libc::STDIN_FILENO;
+use libc::STDOUT_FILENO;
+use order_text::TextAnswer;
+use order_text::order_of_text;
+
+// The longest order file: 48 bytes, and 2 for each of 512 demands.
+const FILE_ROOM: usize = 1072;
+
+fn main() {
+    let mut text = io::large_buffer();
+    let length = io::read_full(STDIN_FILENO, &mut text);
+    // a buffer that is full may leave text behind
+    if length == text.len() {
+        faults::long_text();
+        return;
+    }
+    write_order(&text[..length]);
+}
+
+fn write_order(text: &[u8]) {
+    let mut file = [0; FILE_ROOM];
+    match order_of_text(text, &mut file) {
+        TextAnswer::Written(length) => put(&file[..length]),
+        TextAnswer::Faulty(fault) => faults::say(fault),
+        // never: the bytes are as many as the longest file has
+        TextAnswer::Refused(refusal) => faults::refused(refusal),
+    }
+}
+
+fn put(file: &[u8]) {
+    if !io::write_all(STDOUT_FILENO, file) {
+        os::fail(b"order: standard output");
+    }
+}
