@@ -1,0 +1,21 @@
+// Prints what the calls on typed orders answer at the edges, an edge to a line: the length and the
+// checksum of the file that is written, or the fault, and whether the rest of the bytes is kept;
+// then the numbers that words stand for.
+mod answers;
+mod bytes;
+mod comments;
+mod counts;
+mod endings;
+mod forms;
+mod limits;
+mod words;
+
+fn main() {
+    forms::edges();
+    comments::edges();
+    limits::edges();
+    endings::edges();
+    bytes::edges();
+    counts::edges();
+    words::edges();
+}
