@@ -3,8 +3,11 @@ use order_text::NumberAnswer;
 use order_text::number_of;
 
 pub fn edges() {
-    taken();
+    short();
+    long();
+    above();
     others();
+    signs();
 }
 
 fn edge(word: &[u8]) {
@@ -18,11 +21,14 @@ fn edge(word: &[u8]) {
     report::end_line();
 }
 
-fn taken() {
+fn short() {
     edge(b"0");
     edge(b"7");
     edge(b"10");
     edge(b"007");
+}
+
+fn long() {
     edge(b"1234567890");
     edge(b"4294967294");
     edge(b"4294967295");
@@ -30,18 +36,24 @@ fn taken() {
     edge(b"000000000000000000000000000000");
 }
 
-fn others() {
-    edge(b"");
+fn above() {
     edge(b"4294967296");
     edge(b"4294967300");
     edge(b"9999999999");
     edge(b"18446744073709551616");
     edge(b"100000000000000000000000000000");
-    edge(b"-1");
-    edge(b"+1");
+}
+
+fn others() {
+    edge(b"");
     edge(b" 1");
     edge(b"1 ");
     edge(b"1#");
+    edge(b"-1");
+    edge(b"+1");
+}
+
+fn signs() {
     edge(b"0x10");
     edge(b"1_000");
     edge(b"1.5");
