@@ -18,7 +18,7 @@ isDigit b = leb 48 b && leb b 57
 abbrev pub pushed : ℕ → ℕ → ℕ → Option ℕ
 pushed limit v b = let n = v * 10 + (b - 48) in cond (leb n limit) (some n) none
 
--- a number of 32 bits
+-- the greatest number of 32 bits
 abbrev pub numberLimit : ℕ
 numberLimit = 4294967295
 
@@ -41,7 +41,7 @@ unfoldable pub digitsOf : ℕ → ℕ → List ℕ
 digitsOf zero n = []
 digitsOf (suc w) n = cond (leb 10 n) (digitsOf w (n / 10)) [] ++ (48 + n % 10) ∷ []
 
--- ---- The answers' cases
+-- ---- The answers' cases in these values
 
 abbrev pub numberSays : NumberAnswer → Option ℕ
 numberSays (Number n) = some n

@@ -32,14 +32,17 @@ pub fn number_of(word: &[u8]) -> NumberAnswer
     NumberAnswer::Number(value)
 }
 
+// Whether a byte is a decimal digit.
 pub(crate) fn is_digit(byte: u8) -> bool
     ensures { λ r. ⌜ r ≡ isDigit byte ⌝ }
 {
-    (48 <= byte) & (byte <= 57)
+    (b'0' <= byte) & (byte <= b'9')
 }
 
+// What one more digit makes of a number.
 pub(crate) enum Push {
     Value(u32),
+    // more than the limit
     Above,
 }
 
@@ -48,7 +51,7 @@ pub(crate) fn push_digit(value: u32, byte: u8, limit: u32) -> Push
     requires { ⌜ isDigit byte ≡ true ⌝ }
     ensures { λ r. ⌜ pushSays r ≡ pushed limit value byte ⌝ }
 {
-    let next = value as u64 * 10 + (byte - 48) as u64;
+    let next = value as u64 * 10 + (byte - b'0') as u64;
     if (limit as u64) < next {
         return Push::Above;
     }

@@ -22,6 +22,11 @@ ghost use Rattle.order_text.specs.Text.{factorStands, limitOf, tariffFig
 // The figures of the tariff.
 pub(crate) const TARIFF_FIGURES: usize = 7;
 
+// The places of p and q among them.
+pub(crate) const P_INDEX: usize = 3;
+
+const Q_INDEX: usize = 4;
+
 // The figures of an order at the most.
 pub(crate) const FIGURES_LIMIT: usize = TARIFF_FIGURES + TRACE_LIMIT;
 
@@ -43,7 +48,7 @@ pub fn limit_of(index: usize) -> u32
 pub(crate) fn factor_stands(index: usize, p: u32, q: u32) -> bool
     ensures { λ r. ⌜ r ≡ factorStands index p q ⌝ }
 {
-    (index != 4) | factor_in_range(Factor { p, q })
+    (index != Q_INDEX) | factor_in_range(Factor { p, q })
 }
 
 // The tariff of the seven figures.

@@ -1,5 +1,7 @@
 // An order typed by hand: decimal text read into the seven figures of a tariff and the demands,
-// and written as an order file. A fault says its line, its figure and its cause.
+// and written as an order file. Spaces, tabs, carriage returns and newlines stand between figures; a
+// # opens a comment that runs to the end of its line. A fault says its line, its figure and its
+// cause, and changes nothing that is lent.
 mod digits;
 mod faults;
 mod figures;

@@ -58,6 +58,7 @@ fn write_figures(figures: &[u32], file: &mut [u8]) -> TextAnswer
     answer_of(write_order(tariff_of(figures), &demands[..periods], file))
 }
 
+// What the order file's writer answers, as an answer to the text.
 fn answer_of(fill: FillAnswer) -> TextAnswer
     ensures { λ r. ⌜ textSays r ≡ read (fillSays fill) ⌝ }
 {

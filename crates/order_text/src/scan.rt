@@ -6,6 +6,7 @@ use crate::digits::push_digit;
 use crate::faults::Cause;
 use crate::faults::Fault;
 use crate::figures::FIGURES_LIMIT;
+use crate::figures::P_INDEX;
 use crate::figures::TARIFF_FIGURES;
 use crate::figures::factor_stands;
 use crate::figures::limit_of;
@@ -17,6 +18,7 @@ ghost use Rattle.order_text.specs.Decimal.{isDigit};
 ghost use Rattle.order_text.specs.Text.{afterByte, closed, endsFigure, faultAt, faulty, figuresLimit, figuresOf, onRead, scanned, started, withDigit};
 ghost use Rattle.order_text.specs.Cursors.{Fits, Passes, StepFits, Steps, lineLimit, scanOf, stepSays};
 
+// Where the scan has come to.
 pub(crate) struct Cursor {
     // the line that the scan is on, from 1
     pub line: usize,
@@ -29,6 +31,7 @@ pub(crate) struct Cursor {
     pub count: usize,
 }
 
+// The scan goes on from a cursor, or ends at a fault.
 pub(crate) enum Step {
     On(Cursor),
     Faulty(Fault),
@@ -79,8 +82,8 @@ fn scan(text: &[u8], figures: &mut [u32]) -> Step
     Step::On(at)
 }
 
-// One byte more: a comment runs to the end of its line, a digit goes to a figure, and what may
-// stand between figures ends one that is begun.
+// One byte more: a comment passes over it; else a digit goes to a figure, what may stand behind a
+// figure ends one that is begun, and any other byte is a fault.
 fn after_byte(at: Cursor, byte: u8, figures: &mut [u32]) -> Step
     requires { ⌜ length (now figures) ≡ figuresLimit ⌝ }
     requires { ⌜ Fits at ⌝ }
@@ -108,7 +111,7 @@ fn after_byte(at: Cursor, byte: u8, figures: &mut [u32]) -> Step
 fn ends_figure(byte: u8) -> bool
     ensures { λ r. ⌜ r ≡ endsFigure byte ⌝ }
 {
-    (byte == 32) | (byte == 9) | (byte == 13) | (byte == 10) | (byte == 35)
+    (byte == b' ') | (byte == b'\t') | (byte == b'\r') | (byte == b'\n') | (byte == b'#')
 }
 
 // Past a byte that belongs to no figure: a newline ends the line and a comment, a # opens one.
@@ -117,12 +120,12 @@ fn pass(at: Cursor, byte: u8) -> Cursor
     ensures { λ r. ⌜ Passes byte at r ⌝ }
 {
     let mut next = at;
-    if byte == 10 {
+    if byte == b'\n' {
         next.line = at.line + 1;
         next.comment = false;
         return next;
     }
-    next.comment = at.comment | (byte == 35);
+    next.comment = at.comment | (byte == b'#');
     next
 }
 
@@ -158,7 +161,7 @@ fn close(at: Cursor, figures: &mut [u32]) -> Step
         return Step::On(at);
     }
     let index = at.count;
-    if !factor_stands(index, figures[3], at.value) {
+    if !factor_stands(index, figures[P_INDEX], at.value) {
         return fault_at(at, Cause::Factor);
     }
     figures[index] = at.value;
