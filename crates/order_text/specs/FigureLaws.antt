@@ -16,11 +16,11 @@ use Rattle.terms.specs.Limits.{demandLimit}
 use Rattle.terms.specs.Ranges.{factorOk}
 use Rattle.terms.specs.RangeLaws.{PeriodsRange, TariffRange, factor-range, periods-ok, tariff-ok}
 use Rattle.encoding.specs.NumberLaws.{Fit}
-use Rattle.order_file.specs.Order.{orderLength, orderBytes, writeOrder}
+use Rattle.order_file.specs.Order.{orderLength, orderBytes}
 use Rattle.order_file.specs.OrderRules.{write-room, write-figures}
 use Rattle.order_text.specs.declared.faults.Cause.the-variants.{Few}
 use Rattle.order_text.specs.DecimalLaws.{push-limit}
-use Rattle.order_text.specs.Text.{read, faulty, thenRead, tariffFigures, limitOf, figuresLimit, factorStands, Scan, started, faultAt, closed, afterByte, scanned, enough, figuresOf, tariffOf, demandsOf}
+use Rattle.order_text.specs.Text.{read, faulty, thenRead, tariffFigures, limitOf, figuresLimit, factorStands, Scan, started, faultAt, closed, afterByte, scanned, enough, figuresOf, tariffOf, demandsOf, writeFigures}
 use Rattle.order_text.specs.ScanLaws.{read-faulty, same-read, then-read, limit-demand, Closes, idle, ended, Goes, inside, past, closes, goes}
 
 abbrev factorWith : ℕ → ℕ → Bool
@@ -141,8 +141,8 @@ module _ (ns : List ℕ) (f : Figures ns) where
 
   -- The file is written where the bytes are as many, and else refused for that alone.
   pub figures-written : (room : ℕ) → orderLength (length (demandsOf ns)) ≤ room
-      → writeOrder room (tariffOf ns) (demandsOf ns) ≡ figures (orderBytes (length (demandsOf ns)) (tariffOf ns) (demandsOf ns))
+      → writeFigures room ns ≡ figures (orderBytes (length (demandsOf ns)) (tariffOf ns) (demandsOf ns))
   figures-written room l = write-figures room _ _ (periods-ok _ periods-fit) (tariff-ok _ tariff-fits) (le-leb _ _ l)
 
-  pub figures-short : (room : ℕ) → room < orderLength (length (demandsOf ns)) → writeOrder room (tariffOf ns) (demandsOf ns) ≡ refused 6
+  pub figures-short : (room : ℕ) → room < orderLength (length (demandsOf ns)) → writeFigures room ns ≡ refused 6
   figures-short room l = write-room room _ _ (periods-ok _ periods-fit) (tariff-ok _ tariff-fits) (lt-leb _ _ l)

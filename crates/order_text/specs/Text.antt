@@ -166,9 +166,13 @@ tariffOf ns =
 abbrev pub demandsOf : List ℕ → List ℕ
 demandsOf ns = drop tariffFigures ns
 
--- The order file of a text, for lent bytes of this room.
+-- The order file of figures, for lent bytes of this room.
+abbrev pub writeFigures : ℕ → List ℕ → Answer (List ℕ)
+writeFigures room ns = writeOrder room (tariffOf ns) (demandsOf ns)
+
+-- … and of a text.
 abbrev pub fileOf : ℕ → List ℕ → Reading (Answer (List ℕ))
-fileOf room text = onRead (λ ns. writeOrder room (tariffOf ns) (demandsOf ns)) (figuresOf text)
+fileOf room text = onRead (writeFigures room) (figuresOf text)
 
 -- The file fills the front of lent bytes; a fault changes nothing.
 abbrev pub filledBy : Reading (Answer (List ℕ)) → List ℕ → List ℕ

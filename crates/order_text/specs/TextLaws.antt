@@ -19,7 +19,7 @@ use Rattle.order_file.specs.Order.{orderLength, writeOrder}
 use Rattle.order_file.specs.OrderLaws.{ReadsBack, write-read}
 use Rattle.order_file.specs.OrderRules.{length-order}
 use Rattle.order_text.specs.declared.faults.Fault.{Fault}
-use Rattle.order_text.specs.Text.{Reading, read, faulty, onRead, figuresOf, tariffOf, demandsOf, fileOf, filledBy}
+use Rattle.order_text.specs.Text.{Reading, read, faulty, onRead, figuresOf, tariffOf, demandsOf, writeFigures, fileOf, filledBy}
 use Rattle.order_text.specs.ScanLaws.{on-read}
 use Rattle.order_text.specs.FigureLaws.{Figures, text-figures, demands-fit, figures-written, figures-short}
 
@@ -30,33 +30,35 @@ copied-front xs old new n l room e = ap (take n) (e ∙ sets-front xs old room) 
 -- The order of these figures, written with what equals its tariff and its demands.
 pub order-written : (ns old : List ℕ) (t : Tariff) (ds : List ℕ) (r : Reading (Answer ℕ)) (n : Answer ℕ) (new : List ℕ) → t ≡ tariffOf ns → ds ≡ demandsOf ns
     → r ≡ read n → n ≡ onFigures length (writeOrder (length old) t ds) → new ≡ filled (writeOrder (length old) t ds) old
-    → (r ≡ read (onFigures length (writeOrder (length old) (tariffOf ns) (demandsOf ns)))) × (new ≡ filled (writeOrder (length old) (tariffOf ns) (demandsOf ns)) old)
+    → (r ≡ read (onFigures length (writeFigures (length old) ns))) × (new ≡ filled (writeFigures (length old) ns) old)
 order-written ns old t ds r n new et ed er en e =
     let same = ap₂ (λ (u : Tariff) (xs : List ℕ). writeOrder (length old) u xs) et ed in
     (er ∙ ap read en ∙ ap (λ (a : Answer (List ℕ)). read (onFigures length a)) same, e ∙ ap (λ (a : Answer (List ℕ)). filled a old) same)
 
 module _ (text old : List ℕ) where
-  abbrev written : List ℕ → Answer (List ℕ)
-  written ns = writeOrder (length old) (tariffOf ns) (demandsOf ns)
-
   -- r is answered, and the bytes that held `old` hold `new`.
   abbrev pub Gives : Reading (Answer ℕ) → List ℕ → Type 0
   Gives r new = (r ≡ onRead (onFigures length) (fileOf (length old) text)) × (new ≡ filledBy (fileOf (length old) text) old)
 
-  pub gives-fault : (x : Fault) → figuresOf text ≡ faulty x → Gives (faulty x) old
-  gives-fault x e =
-      (sym (ap (λ (a : Reading (List ℕ)). onRead (onFigures length) (onRead written a)) e), sym (ap (λ (a : Reading (List ℕ)). filledBy (onRead written a) old) e))
+  gives-same : (a : Reading (List ℕ)) → figuresOf text ≡ a
+      → Gives (onRead (onFigures length) (onRead (writeFigures (length old)) a)) (filledBy (onRead (writeFigures (length old)) a) old)
+  gives-same a e =
+      let file : onRead (writeFigures (length old)) a ≡ fileOf (length old) text = ap (onRead (writeFigures (length old))) (sym e) in
+      (ap (onRead (onFigures length)) file, ap (λ (b : Reading (Answer (List ℕ))). filledBy b old) file)
 
-  pub gives-file : (ns : List ℕ) (r : Reading (Answer ℕ)) (new : List ℕ) → figuresOf text ≡ read ns → r ≡ read (onFigures length (written ns)) → new ≡ filled (written ns) old → Gives r new
-  gives-file ns r new e f g =
-      (f ∙ sym (ap (λ (a : Reading (List ℕ)). onRead (onFigures length) (onRead written a)) e), g ∙ sym (ap (λ (a : Reading (List ℕ)). filledBy (onRead written a) old) e))
+  pub gives-fault : (x : Fault) → figuresOf text ≡ faulty x → Gives (faulty x) old
+  gives-fault x e = gives-same (faulty x) e
+
+  pub gives-file : (ns : List ℕ) (r : Reading (Answer ℕ)) (new : List ℕ) → figuresOf text ≡ read ns
+      → r ≡ read (onFigures length (writeFigures (length old) ns)) → new ≡ filled (writeFigures (length old) ns) old → Gives r new
+  gives-file ns r new e f g = let k = gives-same (read ns) e in (f ∙ k .0, g ∙ k .1)
 
 -- ---- The file of a text
 
 -- A file that is written reads back as the figures of the text.
 pub text-read-back : (room : ℕ) (text bs : List ℕ) → fileOf room text ≡ read (figures bs) → (ns : List ℕ) × (figuresOf text ≡ read ns) × ReadsBack (tariffOf ns) (demandsOf ns) bs
 text-read-back room text bs e =
-    let a = on-read (λ ns. writeOrder room (tariffOf ns) (demandsOf ns)) (figuresOf text) e in
+    let a = on-read (writeFigures room) (figuresOf text) e in
     (a .0, a .1, write-read room (tariffOf (a .0)) (demandsOf (a .0)) bs (demands-fit (a .0) (text-figures text (a .0) (a .1))) (a .2))
 
 -- What is written lies inside the bytes.
@@ -64,11 +66,11 @@ pub written-inside : (room n : ℕ) (text : List ℕ) → read (figures n) ≡ o
 written-inside room n text e =
     let a = on-read (onFigures length) (fileOf room text) (sym e) in
     let b = on-figures length (a .0) (a .2) in
-    let c = on-read (λ ns. writeOrder room (tariffOf ns) (demandsOf ns)) (figuresOf text) (a .1) in
+    let c = on-read (writeFigures room) (figuresOf text) (a .1) in
     let f = text-figures text (c .0) (c .1) in
     omega (arith, go (c .0) f (b .0) (c .2 ∙ b .1) (leb (orderLength (length (demandsOf (c .0)))) room) refl, b .2)
   where
-    go : (ns : List ℕ) → Figures ns → (bs : List ℕ) → writeOrder room (tariffOf ns) (demandsOf ns) ≡ figures bs
+    go : (ns : List ℕ) → Figures ns → (bs : List ℕ) → writeFigures room ns ≡ figures bs
         → (t : Bool) → leb (orderLength (length (demandsOf ns))) room ≡ t → length bs ≤ room
     go ns f bs k true h =
         let l = leb-true (orderLength (length (demandsOf ns))) room h in
@@ -79,11 +81,11 @@ written-inside room n text e =
 -- A text that has no fault is refused only where the bytes are fewer than the file, by number 6.
 pub text-refused : (room n : ℕ) (text : List ℕ) → fileOf room text ≡ read (refused n) → n ≡ 6
 text-refused room n text e =
-    let a = on-read (λ ns. writeOrder room (tariffOf ns) (demandsOf ns)) (figuresOf text) e in
+    let a = on-read (writeFigures room) (figuresOf text) e in
     let f = text-figures text (a .0) (a .1) in
     let size = orderLength (length (demandsOf (a .0))) in
     go (a .0) f (a .2) (leb size room) refl
   where
-    go : (ns : List ℕ) → Figures ns → writeOrder room (tariffOf ns) (demandsOf ns) ≡ refused n → (t : Bool) → leb (orderLength (length (demandsOf ns))) room ≡ t → n ≡ 6
+    go : (ns : List ℕ) → Figures ns → writeFigures room ns ≡ refused n → (t : Bool) → leb (orderLength (length (demandsOf ns))) room ≡ t → n ≡ 6
     go ns f k true h = absurd (figures-refused (sym (figures-written ns f room (leb-true _ _ h)) ∙ k))
     go ns f k false h = same-refusal (sym k ∙ figures-short ns f room (leb-false _ _ h))

@@ -17,8 +17,7 @@ ghost use Rattle.terms.specs.Answer.{onFigures};
 ghost use Rattle.terms.specs.Lent.{filled};
 ghost use Rattle.encoding.specs.Fill.{fillSays};
 ghost use Rattle.encoding.specs.NumberLaws.{Fit};
-ghost use Rattle.order_file.specs.Order.{writeOrder};
-ghost use Rattle.order_text.specs.Text.{demandsOf, fileOf, filledBy, onRead, read, tariffOf, textSays};
+ghost use Rattle.order_text.specs.Text.{fileOf, filledBy, onRead, read, textSays, writeFigures};
 ghost use Rattle.order_text.specs.FigureLaws.{Figures};
 
 pub enum TextAnswer {
@@ -49,8 +48,8 @@ pub fn order_of_text(text: &[u8], file: &mut [u8]) -> TextAnswer
 // Writes the order of these figures.
 fn write_figures(figures: &[u32], file: &mut [u8]) -> TextAnswer
     requires { ⌜ Figures (now figures) ⌝ }
-    ensures { λ r. ⌜ textSays r ≡ read (onFigures length (writeOrder (length (now (file .entry))) (tariffOf (now (figures .entry))) (demandsOf (now (figures .entry))))) ⌝ }
-    ensures { λ _. ⌜ now (file .exit) ≡ filled (writeOrder (length (now (file .entry))) (tariffOf (now (figures .entry))) (demandsOf (now (figures .entry)))) (now (file .entry)) ⌝ }
+    ensures { λ r. ⌜ textSays r ≡ read (onFigures length (writeFigures (length (now (file .entry))) (now (figures .entry)))) ⌝ }
+    ensures { λ _. ⌜ now (file .exit) ≡ filled (writeFigures (length (now (file .entry))) (now (figures .entry))) (now (file .entry)) ⌝ }
 {
     let mut demands = [0; TRACE_LIMIT];
     let periods = figures.len() - TARIFF_FIGURES;
