@@ -1,8 +1,10 @@
 -- The series is planned on the numbers spread, which are as many as the order says.
+use native.Mathlib.Omega.{arith}
 use mathlib.Core.Path.{sym, ap}
+use lib.Seq.{length-take-le}
 use Rattle.order_file.specs.Order.{orderSays}
 use Rattle.planning.specs.Planning.{RecordLists, lists}
-use Rattle.planning.specs.CallLaws.{demands-count, demands-inside, planning-refused, series-planned}
+use Rattle.planning.specs.CallLaws.{demands-inside, planning-refused, series-planned}
 use borrow.Author.Needs.{needs}
 use Rattle.planning.proofs.orders.plan_order.Statement.{statement}
 use Rattle.planning.proofs.orders.plan_order.Tie as tie
@@ -36,12 +38,12 @@ cast-periods c = search needs
 slice-reshare-prefix-series : tie.Need-slice-reshare-prefix-series
 slice-reshare-prefix-series c =
     let x = c .before .before .before in
-    demands-inside _ _ _ _ (spread-at x .spread-order .ensures) _ (ap orderSays (x .x .given .1))
+    omega (arith, demands-inside _ _ _ _ (spread-at x .spread-order .ensures) _ (ap orderSays (x .x .given .1)))
 
 slice-aggregate-series : tie.Need-slice-aggregate-series
 slice-aggregate-series c =
     let x = c .before .before .before .before in
-    sym (demands-count _ _ _ _ (spread-at x .spread-order .ensures) _ (ap orderSays (x .x .given .1)))
+    sym (length-take-le _ _ (omega (arith, demands-inside _ _ _ _ (spread-at x .spread-order .ensures) _ (ap orderSays (x .x .given .1)))))
 
 series-requires : tie.Need-series-requires
 series-requires c κs = search needs

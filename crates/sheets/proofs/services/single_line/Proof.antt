@@ -3,12 +3,13 @@ use Prim.Native.Nat.{_+_, _≤_}
 use native.Mathlib.Omega.{arith}
 use mathlib.Core.Path.{_≡_, sym, ap, _∙_}
 use lib.ListN.{length, take}
+use lib.Seq.{length-take-le}
 use Rattle.terms.specs.Answer.{figures}
 use Rattle.order_file.specs.Order.{orderSays}
 use Rattle.single.specs.Single.{singleOf, singleSays}
 use Rattle.text.specs.FittedLaws.{ready-count, ready-inside, ready-fills}
 use Rattle.text.specs.Lines.{singleLine}
-use Rattle.planning.specs.CallLaws.{demands-count, demands-inside, order-range}
+use Rattle.planning.specs.CallLaws.{demands-inside, order-range}
 use Rattle.sheets.specs.ServiceLaws.{long, zeros, refused-fills, found-fills, order-unfilled, order-filled, priced-short}
 use borrow.Author.Needs.{needs}
 use Rattle.sheets.proofs.services.single_line.Statement.{statement}
@@ -54,12 +55,12 @@ cast-demands c = search needs
 array-share-prefix-demands : tie.Need-array-share-prefix-demands
 array-share-prefix-demands c =
     let x = c .before .before .before in
-    demands-inside _ _ _ _ (spread-at x .spread-order .ensures) _ (ap orderSays (x .x .given .1))
+    omega (arith, demands-inside _ _ _ _ (spread-at x .spread-order .ensures) _ (ap orderSays (x .x .given .1)))
 
 slice-aggregate-single : tie.Need-slice-aggregate-single
 slice-aggregate-single c =
     let x = c .before .before .before .before in
-    sym (demands-count _ _ _ _ (spread-at x .spread-order .ensures) _ (ap orderSays (x .x .given .1)))
+    sym (length-take-le _ _ (omega (arith, demands-inside _ _ _ _ (spread-at x .spread-order .ensures) _ (ap orderSays (x .x .given .1)))))
 
 single-requires : tie.Need-single-requires
 single-requires c κs = search needs

@@ -3,6 +3,7 @@ use Prim.Native.Nat.{_+_, _^_, _≤_, _<_}
 use native.Mathlib.Omega.{arith}
 use mathlib.Core.Path.{sym, ap, _∙_}
 use lib.ListN.{length}
+use lib.Seq.{length-take-le}
 use lib.Signed.{natAbs-le}
 use mir.Syntax.{w64}
 use mir.Val.{SFits}
@@ -13,7 +14,7 @@ use Rattle.order_file.specs.Order.{orderSays}
 use Rattle.text.specs.FittedLaws.{ready-count, ready-inside, ready-fills}
 use Rattle.text.specs.Lines.{trialLine}
 use Rattle.text.specs.LineLaws.{trial-short}
-use Rattle.planning.specs.CallLaws.{demands-count, demands-inside}
+use Rattle.planning.specs.CallLaws.{demands-inside}
 use Rattle.sheets.specs.ServiceLaws.{long, zeros, refused-fills, found-fills, order-unfilled, order-filled}
 use borrow.Author.Needs.{needs}
 use Rattle.sheets.proofs.services.trial_line.Statement.{statement}
@@ -58,12 +59,12 @@ cast-demands c = search needs
 array-share-prefix-demands : tie.Need-array-share-prefix-demands
 array-share-prefix-demands c =
     let x = c .before .before .before in
-    demands-inside _ _ _ _ (spread-at x .spread-order .ensures) _ (ap orderSays (x .x .given .1))
+    omega (arith, demands-inside _ _ _ _ (spread-at x .spread-order .ensures) _ (ap orderSays (x .x .given .1)))
 
 slice-aggregate-trial : tie.Need-slice-aggregate-trial
 slice-aggregate-trial c =
     let x = c .before .before .before .before in
-    sym (demands-count _ _ _ _ (spread-at x .spread-order .ensures) _ (ap orderSays (x .x .given .1)))
+    sym (length-take-le _ _ (omega (arith, demands-inside _ _ _ _ (spread-at x .spread-order .ensures) _ (ap orderSays (x .x .given .1)))))
 
 trial-requires : tie.Need-trial-requires
 trial-requires c κs = search needs

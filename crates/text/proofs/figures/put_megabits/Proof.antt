@@ -7,6 +7,10 @@ use borrow.Author.Needs.{needs}
 use Rattle.text.proofs.figures.put_megabits.Statement.{statement}
 use Rattle.text.proofs.figures.put_megabits.Tie as tie
 
+-- where the whole part and the point are stored
+abbrev stored-at : tie.After-put-digits-arg → tie.After-put-number
+stored-at c = c .before .before .before
+
 magnitude-requires : tie.Need-magnitude-requires
 magnitude-requires c κs = search needs
 
@@ -23,14 +27,14 @@ put-number-requires c κs =
 
 put-digits-requires : tie.Need-put-digits-requires
 put-digits-requires c κs =
-    let e = c .before .before .before in
+    let e = stored-at c in
     let d = e .before .before .before .before in
     let s = d .before .before .before .before in
     places-room (s .args .text .now) (s .args .at) (s .args .figure) (s .pre) _ (toZ-ofZ (s .fits .figure)) _ (d .before .before .magnitude .ensures) _ _ (d .put-sign .ensures) _ _ (e .put-number .ensures)
 
 add-result : tie.Need-add-result
 add-result c =
-    let e = c .before .before .before .before .before .before in
+    let e = stored-at (c .before .before .before) in
     let d = e .before .before .before .before in
     let s = d .before .before .before .before in
     omega (arith, places-room (s .args .text .now) (s .args .at) (s .args .figure) (s .pre) _ (toZ-ofZ (s .fits .figure)) _ (d .before .before .magnitude .ensures) _ _ (d .put-sign .ensures) _ _ (e .put-number .ensures))
@@ -40,7 +44,7 @@ same-length c = search needs
 
 returns : tie.Need-returns
 returns c =
-    let e = c .before .before .before .before .before .before in
+    let e = stored-at (c .before .before .before) in
     let d = e .before .before .before .before in
     let s = d .before .before .before .before in
     puts-megabits _ _ (s .args .figure) (s .pre) _ (toZ-ofZ (s .fits .figure)) _ (d .before .before .magnitude .ensures) _ _ (d .put-sign .ensures) _ _ (e .put-number .ensures) _ (c .before .before .put-digits .ensures)
