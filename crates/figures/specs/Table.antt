@@ -3,7 +3,7 @@
 use Prim.Native.Nat.{ℕ}
 use mathlib.Core.Path.{_≡_, refl}
 use mathlib.Core.Bool.{true}
-use mathlib.Core.List.{List, [], _∷_}
+use mathlib.Core.List.{List, [], _∷_, map}
 use lib.IntN.{ℤ, pos, negsuc}
 use lib.ListN.{length}
 use Rattle.terms.specs.declared.Factor.{Factor}
@@ -24,6 +24,9 @@ use Rattle.series.specs.Cutting.{longer, wins, bestFirst, bests}
 use Rattle.terms.specs.Records.{total}
 use Rattle.series.specs.Series.{trueCost, seriesOf}
 use Rattle.terms.specs.Records.{Cutting}
+use Rattle.text.specs.Numeral.{digits, numeralIn}
+use Rattle.text.specs.Megabits.{megabits}
+use Rattle.sheets.specs.Sheet.{runLines, sheetText}
 use Rattle.figures.specs.Rows.{Row, allRight, Hold, all-hold}
 
 -- the factor of the printed case
@@ -93,6 +96,14 @@ trialRow t = t .spare ∷ pos (t .over) ∷ []
 meterRow : List ℕ → Meter → List ℤ
 meterRow ds m = let n = afterOffers m ds in pos (n .sent) ∷ pos (n .over) ∷ pos (n .lost) ∷ pos (n .held) ∷ []
 
+-- the bytes of a text
+textRow : List ℕ → Answer (List ℤ)
+textRow bs = figures (map pos bs)
+
+-- the sheet of a plan for the printed case
+printedSheet : Cutting → List ℤ
+printedSheet xs = map pos (sheetText (record { order = record { periods = 3; tariff = printed }; demands = case; cutting = xs }))
+
 pub table : List Row
 table =
     -- A: 4,8,2 at rates 4, 5, 6: depths 8, 4, 2
@@ -125,6 +136,16 @@ table =
     ∷ record { given = onFigures singleRow (singleOf printed (0 ∷ [])); paper = figures (pos 0 ∷ pos 0 ∷ pos 4 ∷ []) }
     -- the printed case: two buckets (5, 4) and (0, 4), cost 40
     ∷ record { given = seriesAt printed case; paper = figures (pos 2 ∷ pos 40 ∷ pos 2 ∷ pos 5 ∷ pos 4 ∷ pos 1 ∷ pos 0 ∷ pos 4 ∷ []) }
+    -- … and its sheet, line by line
+    ∷ record {
+      given = onFigures printedSheet (seriesOf printed 3 case);
+      paper = textRow (
+        112 ∷ 108 ∷ 97 ∷ 110 ∷ 32 ∷ 51 ∷ 32 ∷ 50 ∷ 32 ∷ 52 ∷ 48 ∷ 10
+        ∷ 49 ∷ 32 ∷ 50 ∷ 32 ∷ 48 ∷ 46 ∷ 48 ∷ 48 ∷ 53 ∷ 32 ∷ 48 ∷ 46 ∷ 48 ∷ 48 ∷ 52 ∷ 32 ∷ 48 ∷ 46 ∷ 48 ∷ 48 ∷ 48 ∷ 10
+        ∷ 51 ∷ 32 ∷ 51 ∷ 32 ∷ 48 ∷ 46 ∷ 48 ∷ 48 ∷ 48 ∷ 32 ∷ 48 ∷ 46 ∷ 48 ∷ 48 ∷ 52 ∷ 32 ∷ 48 ∷ 46 ∷ 48 ∷ 48 ∷ 48 ∷ 10
+        ∷ []
+      );
+    }
     -- J: meter rate 5, depth 4, offers 4,8,2,9: sent 22, over 1, lost 0, tokens 0
     ∷ record {
       given = onFigures (meterRow (4 ∷ 8 ∷ 2 ∷ 9 ∷ [])) (openOf (bucketOf 5 4) half);
@@ -135,10 +156,15 @@ table =
       given = onFigures trialRow (trialOf (bucketOf 5 3) half case);
       paper = figures (negsuc 0 ∷ pos 1 ∷ []);
     }
+    -- L: −500, 500, 0, −1,500 print -0.500, 0.500, 0.000, -1.500
+    ∷ record { given = textRow (megabits (negsuc 499)); paper = textRow (45 ∷ 48 ∷ 46 ∷ 53 ∷ 48 ∷ 48 ∷ []) }
+    ∷ record { given = textRow (megabits (pos 500)); paper = textRow (48 ∷ 46 ∷ 53 ∷ 48 ∷ 48 ∷ []) }
+    ∷ record { given = textRow (megabits (pos 0)); paper = textRow (48 ∷ 46 ∷ 48 ∷ 48 ∷ 48 ∷ []) }
+    ∷ record { given = textRow (megabits (negsuc 1499)); paper = textRow (45 ∷ 49 ∷ 46 ∷ 53 ∷ 48 ∷ 48 ∷ []) }
     ∷ []
 
 table-right : allRight table ≡ true
-unfolding table half tariff printed withFee capped uneven empty case depthRow singleRow costRow bucketRows seriesRow seriesAt trialRow meterRow allRight startOf sumOf carriesFrom gaps leastOf spareFrom trialFigures meterOk offerOf afterOffers firstFrom depthOf costOf smaller preferred bestOf singleOf total longer wins bestFirst bests seriesOf
+unfolding table half tariff printed withFee capped uneven empty case depthRow singleRow costRow bucketRows seriesRow seriesAt trialRow meterRow textRow printedSheet allRight startOf sumOf carriesFrom gaps leastOf spareFrom trialFigures meterOk offerOf afterOffers firstFrom depthOf costOf smaller preferred bestOf singleOf total longer wins bestFirst bests seriesOf digits numeralIn runLines
 table-right = refl
 
 pub figures-hold : Hold table

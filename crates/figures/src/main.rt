@@ -1,5 +1,6 @@
 // Prints the lettered figures of document 01 as the calls give them.
 use bucket::MeterAnswer;
+use samples::file_bytes::front;
 use samples::tariffs::caps_of;
 use samples::tariffs::from_empty;
 use samples::tariffs::half;
@@ -26,6 +27,7 @@ fn main() {
     printed_row();
     row_j();
     row_k();
+    row_l();
 }
 
 // Row D's tariff, with caps on rate and depth.
@@ -162,4 +164,22 @@ fn row_k() {
         half(),
         &trace,
     ));
+}
+
+// Minus one half, one half, nothing, and minus one and a half megabits.
+fn row_l() {
+    report::words(b"L");
+    figure(-500);
+    figure(500);
+    figure(0);
+    figure(-1500);
+    report::end_line();
+}
+
+// A space and a figure in megabits.
+fn figure(z: i64) {
+    let mut text = [0u8; 24];
+    let answer = text::megabits(z, &mut text);
+    report::words(b" ");
+    report::words(front(&text, report::filled_of(answer)));
 }
