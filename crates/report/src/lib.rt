@@ -21,8 +21,7 @@ use series::SeriesAnswer;
 use single::SingleAnswer;
 use terms::BucketRecord;
 use terms::Refusal;
-ghost use mathlib.Core.Path.{_≡_};
-ghost use lib.IntN.{natAbs};
+use text::figures::magnitude;
 
 // Words as they stand.
 pub fn words(text: &[u8]) {
@@ -49,13 +48,6 @@ pub fn signed(z: i64) {
     } else {
         number(magnitude(z));
     }
-}
-
-// A signed number without its sign.
-fn magnitude(z: i64) -> u64
-    ensures { λ r. ⌜ r ≡ natAbs z ⌝ }
-{
-    if z < 0 { !z as u64 + 1 } else { z as u64 }
 }
 
 pub fn end_line() {
