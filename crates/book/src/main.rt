@@ -4,7 +4,7 @@ use booking::BookingAnswer;
 use console::ORDER_ROOM;
 use console::has_words;
 use console::put_front;
-use console::read_order;
+use console::read_all;
 use console::refuse;
 use libc::STDERR_FILENO;
 use terms::limits::TRACE_LIMIT;
@@ -20,7 +20,7 @@ fn main() {
         return;
     }
     let mut order = [0u8; ORDER_ROOM];
-    let length = read_order(&mut order);
+    let length = read_all(&mut order);
     book_order(&order[..length]);
 }
 

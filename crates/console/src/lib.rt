@@ -13,10 +13,29 @@ ghost use Rattle.io.specs.Counts.{Counts};
 pub const ORDER_ROOM: usize = 1073;
 
 // Reads all of standard input, in whatever pieces it comes, or as much of it as there is room for.
-pub fn read_order(order: &mut [u8; ORDER_ROOM]) -> usize
-    ensures { λ r. ⌜ Counts r (now (order .exit)) ⌝ }
+// Where a read fails, that goes to standard error and nothing counts as read: a part of an order
+// could pass for another order.
+pub fn read_all(room: &mut [u8]) -> usize
+    ensures { λ r. ⌜ Counts r (now (room .exit)) ⌝ }
 {
-    io::read_full(STDIN_FILENO, order)
+    let mut done = 0;
+    while done < room.len() {
+        let got = libc::read(STDIN_FILENO, &mut room[done..]);
+        if got < 0 {
+            say_unread();
+            return 0;
+        }
+        let more = io::count(got, room);
+        if more == 0 {
+            return done;
+        }
+        done += more;
+    }
+    done
+}
+
+fn say_unread() {
+    os::fail(b"standard input");
 }
 
 // Whether the program was started with that many words, its own name among them; where it was not,

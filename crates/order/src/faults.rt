@@ -15,7 +15,7 @@ pub fn say(fault: Fault) {
     match cause {
         Cause::Byte => words(b"not a decimal number"),
         Cause::Above => above(fault.figure),
-        Cause::Factor => words(b"0, or below p"),
+        Cause::Factor => words(b"0, or less than p"),
         Cause::Many => words(b"more than 512 demands"),
         Cause::Few => words(b"the text ends where it is due"),
     }

@@ -3,8 +3,9 @@
 // at most 65,535 bytes.
 mod faults;
 
-use libc::STDIN_FILENO;
-use libc::STDOUT_FILENO;
+use console::has_words;
+use console::put_front;
+use console::read_all;
 use order_text::TextAnswer;
 use order_text::order_of_text;
 
@@ -12,8 +13,14 @@ use order_text::order_of_text;
 const FILE_ROOM: usize = 1072;
 
 fn main() {
+    if !has_words(
+        1,
+        b"use: order < TEXT > ORDER (figures as decimal text on standard input)\n",
+    ) {
+        return;
+    }
     let mut text = io::large_buffer();
-    let length = io::read_full(STDIN_FILENO, &mut text);
+    let length = read_all(&mut text);
     // a buffer that is full may leave text behind
     if length == text.len() {
         faults::long_text();
@@ -25,15 +32,9 @@ fn main() {
 fn write_order(text: &[u8]) {
     let mut file = [0; FILE_ROOM];
     match order_of_text(text, &mut file) {
-        TextAnswer::Written(length) => put(&file[..length]),
+        TextAnswer::Written(length) => put_front(&file, length),
         TextAnswer::Faulty(fault) => faults::say(fault),
         // never: the bytes are as many as the longest file has
         TextAnswer::Refused(refusal) => faults::refused(refusal),
-    }
-}
-
-fn put(file: &[u8]) {
-    if !io::write_all(STDOUT_FILENO, file) {
-        os::fail(b"order: standard output");
     }
 }

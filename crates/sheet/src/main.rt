@@ -2,7 +2,7 @@
 use console::ORDER_ROOM;
 use console::has_words;
 use console::print;
-use console::read_order;
+use console::read_all;
 use sheets::plans::LONGEST_SHEET;
 
 fn main() {
@@ -10,7 +10,7 @@ fn main() {
         return;
     }
     let mut order = [0u8; ORDER_ROOM];
-    let length = read_order(&mut order);
+    let length = read_all(&mut order);
     let mut text = [0u8; LONGEST_SHEET];
     let answer = sheets::sheet(&order[..length], &mut text);
     print(answer, &text);

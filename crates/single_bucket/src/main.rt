@@ -2,7 +2,7 @@
 use console::ORDER_ROOM;
 use console::has_words;
 use console::print;
-use console::read_order;
+use console::read_all;
 use sheets::single_line;
 
 fn main() {
@@ -13,7 +13,7 @@ fn main() {
         return;
     }
     let mut order = [0u8; ORDER_ROOM];
-    let length = read_order(&mut order);
+    let length = read_all(&mut order);
     let mut text = [0u8; 64];
     let answer = single_line(&order[..length], &mut text);
     print(answer, &text);

@@ -4,7 +4,7 @@ use console::ORDER_ROOM;
 use console::has_words;
 use console::print;
 use console::put;
-use console::read_order;
+use console::read_all;
 use libc::STDERR_FILENO;
 use order_text::NumberAnswer;
 use order_text::number_of;
@@ -50,7 +50,7 @@ fn argument(index: usize) -> NumberAnswer {
 
 fn print_trial(bucket: Bucket) {
     let mut order = [0u8; ORDER_ROOM];
-    let length = read_order(&mut order);
+    let length = read_all(&mut order);
     let mut text = [0u8; 64];
     let answer = trial_line(&order[..length], bucket, &mut text);
     print(answer, &text);
