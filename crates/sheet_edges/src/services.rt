@@ -1,0 +1,65 @@
+// One order: what each of the three services writes of it into a text with so much room.
+use encoding::FillAnswer;
+use order_file::write_order;
+use samples::file_bytes::LENT;
+use samples::file_bytes::LENT_BYTES;
+use samples::file_bytes::front;
+use samples::file_bytes::is_lent;
+use samples::file_bytes::lent_front;
+use terms::Bucket;
+use terms::Depth;
+use terms::Rate;
+use terms::Tariff;
+
+// An order of this tariff and trace in all three, the bucket being for the trial.
+pub fn services_of(tariff: Tariff, trace: &[u16], bucket: Bucket, room: usize) {
+    let mut file = [LENT; LENT_BYTES];
+    let answer = write_order(tariff, trace, &mut file);
+    services(front(&file, report::filled_of(answer)), bucket, room);
+}
+
+// The same of the bytes of an order.
+pub fn services(order: &[u8], bucket: Bucket, room: usize) {
+    report::figure(b"sheet in", room as u64);
+    sheet_in(order, room);
+    report::figure(b"single in", room as u64);
+    single_in(order, room);
+    report::figure(b"trial of", bucket.rate.0 as u64);
+    report::number(bucket.depth.0 as u64);
+    report::figure(b" in", room as u64);
+    trial_in(order, bucket, room);
+}
+
+pub fn sheet_in(order: &[u8], room: usize) {
+    let mut text = [LENT; LENT_BYTES];
+    let answer = sheets::sheet(order, lent_front(&mut text, room));
+    print(answer, &text);
+}
+
+fn single_in(order: &[u8], room: usize) {
+    let mut text = [LENT; LENT_BYTES];
+    let answer = sheets::single_line(order, lent_front(&mut text, room));
+    print(answer, &text);
+}
+
+fn trial_in(order: &[u8], bucket: Bucket, room: usize) {
+    let mut text = [LENT; LENT_BYTES];
+    let answer = sheets::trial_line(order, bucket, lent_front(&mut text, room));
+    print(answer, &text);
+}
+
+// How many bytes were filled, or the refusal; whether the rest is as it was lent; and the text.
+pub fn print(answer: FillAnswer, text: &[u8; LENT_BYTES]) {
+    let length = report::filled_of(answer);
+    report::words(b":");
+    report::fill(answer);
+    report::kept(is_lent(text, length));
+    report::words(front(text, length));
+}
+
+pub fn bucket_of(rate: u32, depth: u32) -> Bucket {
+    Bucket {
+        rate: Rate(rate),
+        depth: Depth(depth),
+    }
+}
