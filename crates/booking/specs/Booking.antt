@@ -6,14 +6,12 @@ use lib.Dec.{leb}
 use lib.ListN.{length, take, drop}
 use Rattle.terms.specs.declared.Factor.{Factor}
 use Rattle.terms.specs.Answer.{Answer, figures, refused, weigh, onFigures, andThen}
-use Rattle.terms.specs.Lent.{filled, recorded, roomOf}
-use Rattle.terms.specs.Records.{Cutting, runLength, runRate, runDepth, total}
+use Rattle.terms.specs.Lent.{filled, recorded}
+use Rattle.terms.specs.Records.{Cutting, runLength, total}
 use Rattle.terms.specs.Refusals.{numberOf}
 use Rattle.bucket.specs.declared.meters.Meter.{Meter}
 use Rattle.bucket.specs.Meter.{meterRun}
-use Rattle.series.specs.Series.{trueCost, seriesOf}
-use Rattle.order_file.specs.declared.orders.Order.{Order}
-use Rattle.order_file.specs.Order.{readOrder, tracePart, spreadOf}
+use Rattle.series.specs.Series.{trueCost}
 use Rattle.plan_file.specs.declared.plans.PlanFigures.{PlanFigures}
 use Rattle.plan_file.specs.Plan.{Recorded, readPlan, writePlan}
 use Rattle.planning.specs.Planning.{RecordLists, Planned, roomIn, withRecords, planned}

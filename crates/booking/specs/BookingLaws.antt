@@ -3,34 +3,32 @@
 -- Assumes nothing.
 use Prim.Native.Nat.{ℕ, zero, suc, _+_, _/_, _^_, _≤_, _<_}
 use native.Mathlib.Omega.{arith}
-use native.Mathlib.Nat.{le-trans, pow-suc}
+use native.Mathlib.Nat.{pow-suc}
 use mathlib.Core.Path.{_≡_, refl, sym, ap, ap₂, subst, _∙_}
 use mathlib.Core.List.{List, [], _∷_}
 use lib.ListN.{length, take, drop, getD, length-take, length-drop}
 use lib.Seq.{drop-drop}
-use Rattle.terms.specs.declared.BucketRecord.{BucketRecord}
 use Rattle.terms.specs.declared.Tariff.{Tariff}
 use Rattle.terms.specs.Answer.{figures}
-use Rattle.terms.specs.AnswerLaws.{on-figures, then-found}
 use Rattle.terms.specs.Limits.{demandLimit, traceLimit, costLimit}
 use Rattle.terms.specs.RangeLaws.{TariffRange, PeriodsRange, RecordRange, FreshRange}
-use Rattle.terms.specs.Records.{Cutting, Each, runLength, total}
+use Rattle.terms.specs.Records.{Cutting, Each}
 use Rattle.bucket.specs.declared.meters.Meter.{Meter}
 use Rattle.bucket.specs.Laws.{carried-over, demands-take, demands-drop}
 use Rattle.bucket.specs.Meter.{meterOn}
 use Rattle.bucket.specs.MeterRuns.{run-metered}
 use Rattle.bucket.specs.Step.{startOf}
 use Rattle.bucket.specs.Trace.{Demands}
-use Rattle.series.specs.Cutting.{FirstRun, none, run}
-use Rattle.series.specs.Series.{Carried, ServesRun, seriesOf, trueCost}
+use Rattle.series.specs.Cutting.{none, run}
+use Rattle.series.specs.Series.{Carried, trueCost}
 use Rattle.series.specs.OutlineLaws.{carried-count, carried-cost}
-use Rattle.series.specs.SeriesLaws.{Cheapest, series-cheapest}
+use Rattle.series.specs.SeriesLaws.{Cheapest}
 use Rattle.encoding.specs.Number.{valueOf, numberAt, itemsAt}
 use Rattle.encoding.specs.NumberLaws.{Bytes, fit-head, fit-tail, fit-drop}
 use Rattle.order_file.specs.declared.orders.Order.{Order}
-use Rattle.order_file.specs.Order.{traceOffset, tariffIn, readOrder, tracePart, demandsIn, spreadOf}
+use Rattle.order_file.specs.Order.{traceOffset, tariffIn, readOrder, tracePart, demandsIn}
 use Rattle.order_file.specs.OrderLaws.{demands-count}
-use Rattle.order_file.specs.OrderRules.{orderIn, read-rules, part-read, length-demands, spread-rules}
+use Rattle.order_file.specs.OrderRules.{read-rules, part-read, length-demands}
 use Rattle.plan_file.specs.PlanRules.{CountsRange}
 use Rattle.plan_file.specs.RecordLaws.{RecordsRange, noRecord}
 use Rattle.planning.specs.Planning.{Planned}

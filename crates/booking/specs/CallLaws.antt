@@ -4,24 +4,17 @@ use Prim.Native.Nat.{ℕ, _≤_}
 use native.Mathlib.Omega.{arith}
 use mathlib.Core.Path.{_≡_, refl, sym, ap, subst, _∙_}
 use mathlib.Core.Bool.{Bool, true, false}
-use mathlib.Core.List.{List, map}
+use mathlib.Core.List.{List}
 use borrow.Author.Tests.{leb-true}
 use lib.Dec.{leb}
-use lib.ListN.{length, take, length-take, length-append, length-drop, length-map}
-use Rattle.terms.specs.declared.BucketRecord.{BucketRecord}
+use lib.ListN.{length, take}
 use Rattle.terms.specs.declared.Factor.{Factor}
 use Rattle.terms.specs.Answer.{Answer, figures, refused, weigh, onFigures, andThen}
-use Rattle.terms.specs.AnswerLaws.{figures-refused, same-figures, on-figures, on-refused, then-figures, then-refused}
-use Rattle.terms.specs.Lent.{filled, recorded, roomOf}
-use Rattle.terms.specs.LentLaws.{Lists, rooms, filled-front}
-use Rattle.terms.specs.Records.{Cutting, runLength, runRate, runDepth, total}
-use Rattle.terms.specs.Refusals.{numberOf}
+use Rattle.terms.specs.AnswerLaws.{figures-refused, same-figures, on-refused, then-figures, then-refused}
+use Rattle.terms.specs.Lent.{filled, roomOf}
+use Rattle.terms.specs.Records.{Cutting, runLength, total}
 use Rattle.bucket.specs.declared.meters.Meter.{Meter}
-use Rattle.series.specs.declared.plans.Plan.{Plan}
-use Rattle.series.specs.Series.{trueCost, seriesOf}
 use Rattle.series.specs.Series as series
-use Rattle.order_file.specs.declared.orders.Order.{Order}
-use Rattle.order_file.specs.Order.{readOrder, tracePart, spreadOf}
 use Rattle.plan_file.specs.declared.plans.PlanFigures.{PlanFigures}
 use Rattle.plan_file.specs.Plan.{Recorded, readPlan, writePlan, figuresOf, bucketsOf, recordsOf}
 use Rattle.plan_file.specs.PlanLaws.{write-read, lists-hold}

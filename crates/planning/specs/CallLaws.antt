@@ -6,7 +6,7 @@ use mathlib.Core.Path.{_≡_, refl, sym, ap, ap₂, subst, _∙_}
 use mathlib.Core.List.{List, map}
 use lib.ListN.{length, take, length-append, length-drop, length-map, length-take}
 use Rattle.terms.specs.declared.BucketRecord.{BucketRecord}
-use Rattle.terms.specs.Answer.{Answer, figures, refused, onFigures, andThen}
+use Rattle.terms.specs.Answer.{Answer, figures, refused, onFigures}
 use Rattle.terms.specs.AnswerLaws.{on-figures, on-refused, then-figures, then-refused}
 use Rattle.terms.specs.Lent.{filled, recorded}
 use Rattle.terms.specs.LentLaws.{Lists, rooms, filled-front}

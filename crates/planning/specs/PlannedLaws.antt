@@ -1,7 +1,7 @@
 -- What the calls up to planning give: the order's own figures, as many demands as its T, and the series answer for them, whose
 -- records keep the rules of a plan.
 -- Assumes nothing.
-use Prim.Native.Nat.{ℕ, _+_, _≤_}
+use Prim.Native.Nat.{ℕ, _≤_}
 use native.Mathlib.Omega.{arith}
 use native.Mathlib.Nat.{le-trans}
 use mathlib.Core.Path.{_≡_, refl, sym, ap, subst, _∙_}

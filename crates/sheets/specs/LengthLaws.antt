@@ -2,17 +2,14 @@
 -- Assumes nothing.
 use Prim.Native.Nat.{ℕ, suc, _+_, _-_, _*_, _^_, _≤_, _<_}
 use native.Mathlib.Omega.{arith}
-use native.Mathlib.Nat.{le-trans}
-use mathlib.Core.Path.{_≡_, refl, sym, ap, subst, _∙_}
+use mathlib.Core.Path.{_≡_, refl, sym, subst, _∙_}
 use mathlib.Core.Bool.{Bool, true, false, cond, true≢false}
 use mathlib.Core.List.{List, [], _∷_, _++_}
-use borrow.Author.Tests.{ltb-true, ltb-false}
-use lib.Dec.{T, ltb, leb, leb→le}
+use lib.Dec.{T, ltb, leb→le}
 use lib.IntN.{ℤ, pos, negsuc, natAbs, _-ℤ_}
 use lib.ListN.{length, take, drop, length-append, length-take, length-drop}
 use lib.Signed.{_≤ℤ_, nonNeg, leZ}
 use Rattle.terms.specs.declared.Bucket.{Bucket}
-use Rattle.terms.specs.declared.Factor.{Factor}
 use Rattle.terms.specs.declared.Tariff.{Tariff}
 use Rattle.terms.specs.RangeLaws.{BucketRange, TariffRange}
 use Rattle.terms.specs.Records.{Cutting, runLength}
@@ -25,7 +22,7 @@ use Rattle.series.specs.Cutting.{none, run}
 use Rattle.series.specs.Series.{Carried}
 use Rattle.text.specs.Numeral.{numeral, ended}
 use Rattle.text.specs.Megabits.{megabits, sign}
-use Rattle.text.specs.Lines.{space, newline, planWord, planLine, bucketFields, bucketLine}
+use Rattle.text.specs.Lines.{space, newline, planWord, planLine, bucketLine}
 use Rattle.text.specs.NumeralLaws.{numeral-short}
 use Rattle.text.specs.MegabitsLaws.{megabits-short}
 use Rattle.text.specs.PutLaws.{ended-length}

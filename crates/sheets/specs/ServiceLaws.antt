@@ -1,6 +1,6 @@
 -- A text that a list of calls leads to: the first refusal ends the list, and the last call fills the text.
 -- Assumes nothing.
-use Prim.Native.Nat.{ℕ, _+_, _*_, _^_, _≤_, _<_}
+use Prim.Native.Nat.{ℕ, _≤_}
 use native.Mathlib.Omega.{arith}
 use native.Mathlib.Nat.{le-trans}
 use mathlib.Core.Path.{_≡_, sym, ap, ap₂, subst, _∙_}

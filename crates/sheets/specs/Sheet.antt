@@ -5,7 +5,7 @@ use mathlib.Core.List.{List, [], _∷_, _++_}
 use lib.ListN.{length, take, drop}
 use Rattle.terms.specs.declared.Bucket.{Bucket}
 use Rattle.terms.specs.declared.Factor.{Factor}
-use Rattle.terms.specs.Answer.{Answer, onFigures, andThen}
+use Rattle.terms.specs.Answer.{Answer, andThen}
 use Rattle.terms.specs.Limits.{traceLimit}
 use Rattle.terms.specs.Records.{Cutting, runLength}
 use Rattle.bucket.specs.Trial.{trialFigures}

@@ -1,16 +1,16 @@
 -- The sheet of a plan that was found: its runs can be printed, it fits the longest text, and what is printed from the lists is the
 -- definition's.
 -- Assumes nothing.
-use Prim.Native.Nat.{ℕ, _+_, _*_, _^_, _≤_, _<_}
+use Prim.Native.Nat.{ℕ, _≤_}
 use native.Mathlib.Omega.{arith}
 use native.Mathlib.Nat.{le-refl, min-eq-left}
-use mathlib.Core.Path.{_≡_, refl, sym, ap, ap₂, subst, _∙_}
+use mathlib.Core.Path.{_≡_, sym, ap, ap₂, subst, _∙_}
 use mathlib.Core.List.{List, _++_}
 use lib.ListN.{length, take, length-append}
 use lib.Seq.{length-take-le}
 use Rattle.terms.specs.declared.Factor.{Factor}
 use Rattle.terms.specs.declared.Tariff.{Tariff}
-use Rattle.terms.specs.Answer.{Answer, figures, refused, onFigures, andThen}
+use Rattle.terms.specs.Answer.{Answer, figures, refused}
 use Rattle.terms.specs.AnswerLaws.{on-refused, then-figures, then-refused}
 use Rattle.terms.specs.Lent.{roomOf}
 use Rattle.terms.specs.Limits.{traceLimit}
@@ -27,7 +27,7 @@ use Rattle.text.specs.Lines.{planLine}
 use Rattle.text.specs.PutLaws.{Puts, Room}
 use Rattle.text.specs.ChainLaws.{first-of-two, second-of-two, two}
 use Rattle.planning.specs.declared.orders.PlannedOrder.{PlannedOrder}
-use Rattle.planning.specs.Planning.{RecordLists, Planned, PlansOrder, lists, roomIn, withRecords, planned, plannedFigures}
+use Rattle.planning.specs.Planning.{RecordLists, Planned, PlansOrder, lists, roomIn, planned, plannedFigures}
 use Rattle.planning.specs.PlannedLaws.{ordered-count, ordered-range, planned-cheapest, carried-sum, served-range}
 use Rattle.planning.specs.CallLaws.{room-kept, found-plan, found-as, found-is, trace-is, trace-inside, plan-is}
 use Rattle.sheets.specs.Sheet.{runLines, sheetText, sheetIn}

@@ -3,7 +3,6 @@
 use crate::runs::put_runs;
 use planning::orders::PlannedOrder;
 use text::lines::put_plan_line;
-ghost use Prim.Native.Nat.{_≤_};
 ghost use mathlib.Core.Path.{_≡_};
 ghost use lib.ListN.{length};
 ghost use Rattle.text.specs.PutLaws.{Puts};

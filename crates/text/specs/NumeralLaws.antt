@@ -1,6 +1,6 @@
 -- A number's digits: how many there are, that they are its last ones, and that they name it.
 -- Assumes nothing.
-use Prim.Native.Nat.{ℕ, zero, suc, _+_, _*_, _/_, _%_, _^_, _≤_, _<_}
+use Prim.Native.Nat.{ℕ, zero, suc, _+_, _/_, _%_, _^_, _≤_, _<_}
 use native.Mathlib.Omega.{arith}
 use native.Mathlib.Nat.{zero-lt-suc, div-lt-iff-lt-mul, mod-eq-of-lt, pow-suc}
 use mathlib.Core.Path.{_≡_, refl, sym, ap, subst, _∙_}

@@ -1,5 +1,4 @@
 -- The byte comes behind the figure.
-use Prim.Native.Nat.{_+_, _≤_, _<_}
 use native.Mathlib.Omega.{arith}
 use mir.Facts.{toZ-ofZ}
 use Rattle.text.specs.Megabits.{megabits}

@@ -1,5 +1,4 @@
 -- Tokens are a figure that is not below 0.
-use Prim.Native.Nat.{_^_, _<_}
 use native.Mathlib.Omega.{arith}
 use mir.Facts.{toZ-pos}
 use mir.Syntax.{w64}

@@ -1,5 +1,4 @@
 -- The sign, the whole part with the point and the thousandths are stored one behind the other.
-use Prim.Native.Nat.{_+_, _≤_, _<_}
 use native.Mathlib.Omega.{arith}
 use mir.Facts.{toZ-ofZ}
 use Rattle.text.specs.PutLaws.{sign-room, whole-room, places-room, puts-megabits}

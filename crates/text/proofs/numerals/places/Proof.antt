@@ -1,5 +1,4 @@
 -- Each division takes a digit off; the last has none above it.
-use Prim.Native.Nat.{_+_, _/_, _^_, _≤_, _<_}
 use native.Mathlib.Omega.{arith}
 use native.Mathlib.Nat.{div-lt-self}
 use Rattle.text.specs.NumeralLaws.{Counting, none-counted, one-counted, all-counted}

@@ -1,5 +1,4 @@
 -- The digits are stored from the last to the first; those that are left, stored too, give the whole.
-use Prim.Native.Nat.{_+_, _/_, _^_, _≤_, _<_}
 use native.Mathlib.Omega.{arith}
 use borrow.Author.Needs.{needs}
 use Rattle.text.specs.NumeralLaws.{Spelling, none-spelled, one-spelled, all-spelled}

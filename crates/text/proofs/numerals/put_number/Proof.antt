@@ -1,7 +1,6 @@
 -- As many of its last digits as it has are the number; the byte comes behind them.
-use Prim.Native.Nat.{_+_, _^_, _≤_, _<_}
+use Prim.Native.Nat.{_+_, _<_}
 use native.Mathlib.Omega.{arith}
-use mathlib.Core.Path.{_≡_}
 use lib.ListN.{length}
 use Rattle.text.specs.Numeral.{numeral}
 use Rattle.text.specs.PutLaws.{ended-length, puts-number}

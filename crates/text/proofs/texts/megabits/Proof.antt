@@ -1,5 +1,5 @@
 -- The array holds the longest figure, and its front is the figure's text.
-use Prim.Native.Nat.{_+_, _^_, _≤_}
+use Prim.Native.Nat.{_≤_}
 use native.Mathlib.Omega.{arith}
 use lib.ListN.{length}
 use lib.Signed.{natAbs-le}

@@ -1,5 +1,5 @@
 -- The array is as long as every refusal's line, and its front is the line.
-use Prim.Native.Nat.{_+_, _≤_}
+use Prim.Native.Nat.{_≤_}
 use native.Mathlib.Omega.{arith}
 use lib.ListN.{length}
 use Rattle.terms.specs.Refusals.{numberOf}
