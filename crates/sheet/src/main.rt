@@ -3,7 +3,7 @@ use console::ORDER_ROOM;
 use console::has_words;
 use console::print;
 use console::read_all;
-use sheets::plans::LONGEST_SHEET;
+use sheets::LONGEST_SHEET;
 
 fn main() {
     if !has_words(1, b"use: sheet < ORDER (an order file on standard input)\n") {

@@ -10,7 +10,7 @@ use samples::tariffs::prices_of;
 use samples::tariffs::tariff_of;
 use samples::tariffs::with_fee;
 use samples::traces::feature;
-use sheets::plans::LONGEST_SHEET;
+use sheets::LONGEST_SHEET;
 use terms::Factor;
 
 // The bytes of the sheet for the feature.

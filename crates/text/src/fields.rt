@@ -1,5 +1,5 @@
-// The fields of a line, each stored with the byte behind it. Public only for this crate's calls and
-// the crates above, which show what is required.
+// The fields of a line, each stored with the byte behind it. Public only for this crate, whose calls
+// show what is required.
 use crate::figures::put_megabits;
 ghost use Prim.Native.Nat.{_+_, _≤_};
 ghost use lib.IntN.{pos};

@@ -1,9 +1,9 @@
 // The text of figures and of the sheet's lines, in ASCII.
-pub mod fields;
+mod fields;
 pub mod figures;
 pub mod fills;
 pub mod lines;
-pub mod numerals;
+mod numerals;
 mod texts;
 
 pub use texts::megabits;

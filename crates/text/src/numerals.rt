@@ -1,5 +1,5 @@
-// Numbers in decimal digits, stored in a text. Public only for this crate's calls and the crates
-// above, which show what is required.
+// Numbers in decimal digits, stored in a text. Public only for this crate, whose calls show what is
+// required.
 ghost use Prim.Native.Nat.{_+_, _≤_};
 ghost use mathlib.Core.Path.{_≡_};
 ghost use lib.ListN.{length};

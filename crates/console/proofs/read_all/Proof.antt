@@ -88,8 +88,10 @@ loop-again : tie.Need-loop-again Inv-loop μ-loop
 loop-again c =
     let r = c .before .before .before .before .before .before in
     let l = r .before .before .before in
-    let m = inside _ _ _ _ _ (r .read .ensures) (toZ-ofZ {w = w64} {z = r .read .result} (record { sfits = r .read .ok })) (c .before .count .ensures .1) in
-    (omega (arith, c .before .before .before .before .before .room .given, l .loop .inv .0), omega (arith, m, behind (l .loop .room) (l .loop .done), l .loop .inv .1, c .before .before .before .before .before .room .given))
+    let m = inside _ _ _ _ _ (r .read .ensures) (toZ-ofZ {w = w64} {z = r .read .result} (record { sfits = r .read .ok })) (c .before .count .ensures .1) in (
+      omega (arith, c .before .before .before .before .before .room .given, l .loop .inv .0),
+      omega (arith, m, behind (l .loop .room) (l .loop .done), l .loop .inv .1, c .before .before .before .before .before .room .given),
+    )
 
 same-length-3 : tie.Need-same-length-3 Inv-loop μ-loop
 same-length-3 c = c .before .loop .inv .0

@@ -67,7 +67,8 @@ returns-2 : tie.Need-returns-2
 returns-2 c =
     let p = c .before .before .before .before .before .before .before in
     let x = p .before .before .before .before .before .before .before .before in
-    series-planned _ _ (given (spread-at x .before .before .before .before .before .before .before)) _ _ (spread-at x .spread-order .ensures) _ (ap orderSays (x .x .given .1)) _ _ _ _ (p .series .ensures .0) (p .series .ensures .1) _ (c .with-order .ensures)
+    series-planned _ _ (given (spread-at x .before .before .before .before .before .before .before)) _ _ (spread-at x .spread-order .ensures) _ (ap orderSays (x .x .given .1))
+    _ _ _ _ (p .series .ensures .0) (p .series .ensures .1) _ (c .with-order .ensures)
 
 pub plan-order-spec : {M : Type 1} → statement M
 plan-order-spec =

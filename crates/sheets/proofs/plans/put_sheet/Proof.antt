@@ -5,13 +5,17 @@ use Rattle.sheets.proofs.plans.put_sheet.Statement.{statement}
 use Rattle.sheets.proofs.plans.put_sheet.Tie as tie
 
 put-plan-line-requires : tie.Need-put-plan-line-requires
-put-plan-line-requires c κs = let s = c .before .before .before .before .before .before .before .before .before in first-room (s .pre .0) (s .args .text .now) (s .pre .1)
+put-plan-line-requires c κs =
+    let s = c .before .before .before .before .before .before .before .before .before in
+    first-room (s .pre .0) (s .args .text .now) (s .pre .1)
 
 cast-trace : tie.Need-cast-trace
 cast-trace c = search needs
 
 slice-aggregate-trace : tie.Need-slice-aggregate-trace
-slice-aggregate-trace c = let s = c .before .before .before .before .before .before .before .before .before .before .before .before .before .before in trace-length (s .pre .0) (s .args .text .now) (s .pre .1)
+slice-aggregate-trace c =
+    let s = c .before .before .before .before .before .before .before .before .before .before .before .before .before .before in
+    trace-length (s .pre .0) (s .args .text .now) (s .pre .1)
 
 cast-put-runs : tie.Need-cast-put-runs
 cast-put-runs c = search needs

@@ -24,7 +24,9 @@ returns : tie.Need-returns
 returns c =
     let t = c .before .before .before .before in
     let s = t .before .before in
-    toZ-ofZ {w = w64} (record { sfits = c .struct-told .given .0 .1 }) ∙ ap (λ (x : TrialFigures). x .spare) (same-figures (ap trialSays (sym (c .before .before .figures .given .1)) ∙ t .trial .ensures ∙ tried _ _ (s .args .run .now) (s .pre .0) (s .pre .1)))
+    toZ-ofZ {w = w64} (record { sfits = c .struct-told .given .0 .1 })
+    ∙ ap (λ (x : TrialFigures). x .spare)
+    (same-figures (ap trialSays (sym (c .before .before .figures .given .1)) ∙ t .trial .ensures ∙ tried _ _ (s .args .run .now) (s .pre .0) (s .pre .1)))
 
 returns-2 : tie.Need-returns-2
 returns-2 c =

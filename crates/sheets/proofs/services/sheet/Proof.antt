@@ -43,7 +43,8 @@ enum-known-why c = search needs
 returns : tie.Need-returns
 returns c =
     let p = c .before .before .before .before .before .before .before in
-    plan-refused _ _ _ _ _ _ _ _ (p .plan-order .ensures) (long 512) lists-long _ (ap plannedSays (c .before .why .given .1)) (p .before .before .before .before .before .before .before .args .text .now)
+    plan-refused _ _ _ _ _ _ _ _ (p .plan-order .ensures) (long 512) lists-long _ (ap plannedSays (c .before .why .given .1))
+    (p .before .before .before .before .before .before .before .args .text .now)
 
 slice-aggregate-put-sheet : tie.Need-slice-aggregate-put-sheet
 slice-aggregate-put-sheet c = search needs

@@ -1,4 +1,6 @@
 -- The four fields are stored one behind the other.
+use Prim.Native.Nat.{ℕ}
+use mathlib.Core.List.{List}
 use borrow.Author.Needs.{needs}
 use Rattle.text.specs.Lines.{newline, planWord, space}
 use Rattle.text.specs.Numeral.{ended, numeral}
@@ -6,26 +8,38 @@ use Rattle.text.specs.ChainLaws.{first-of-four, second-of-four, third-of
 use Rattle.text.proofs.lines.put_plan_line.Statement.{statement}
 use Rattle.text.proofs.lines.put_plan_line.Tie as tie
 
+abbrev field₁ : tie.Start → List ℕ
+field₁ s = ended planWord space
+
+abbrev field₂ : tie.Start → List ℕ
+field₂ s = ended (numeral (s .args .periods)) space
+
+abbrev field₃ : tie.Start → List ℕ
+field₃ s = ended (numeral (s .args .buckets)) space
+
+abbrev field₄ : tie.Start → List ℕ
+field₄ s = ended (numeral (s .args .cost)) newline
+
 slice-aggregate-put-word : tie.Need-slice-aggregate-put-word
 slice-aggregate-put-word c = search needs
 
 put-word-requires : tie.Need-put-word-requires
 put-word-requires c κs =
     let s = c .before .before .before in
-    first-of-four (s .args .text .now) (s .args .at) (ended planWord space) (ended (numeral (s .args .periods)) space) (ended (numeral (s .args .buckets)) space) (ended (numeral (s .args .cost)) newline) (s .pre)
+    first-of-four (s .args .text .now) (s .args .at) (field₁ s) (field₂ s) (field₃ s) (field₄ s) (s .pre)
 
 put-number-requires : tie.Need-put-number-requires
 put-number-requires c κs =
     let c1 = c .before .before .before in
     let s = c1 .before .before .before .before in
-    second-of-four (s .args .text .now) (s .args .at) (ended planWord space) (ended (numeral (s .args .periods)) space) (ended (numeral (s .args .buckets)) space) (ended (numeral (s .args .cost)) newline) (s .pre) (c1 .put-word .ensures)
+    second-of-four (s .args .text .now) (s .args .at) (field₁ s) (field₂ s) (field₃ s) (field₄ s) (s .pre) (c1 .put-word .ensures)
 
 put-number-requires-2 : tie.Need-put-number-requires-2
 put-number-requires-2 c κs =
     let c2 = c .before .before .before in
     let c1 = c2 .before .before .before .before in
     let s = c1 .before .before .before .before in
-    third-of-four (s .args .text .now) (s .args .at) (ended planWord space) (ended (numeral (s .args .periods)) space) (ended (numeral (s .args .buckets)) space) (ended (numeral (s .args .cost)) newline) (s .pre) (c1 .put-word .ensures) (c2 .put-number .ensures)
+    third-of-four (s .args .text .now) (s .args .at) (field₁ s) (field₂ s) (field₃ s) (field₄ s) (s .pre) (c1 .put-word .ensures) (c2 .put-number .ensures)
 
 put-number-requires-3 : tie.Need-put-number-requires-3
 put-number-requires-3 c κs =
@@ -33,7 +47,7 @@ put-number-requires-3 c κs =
     let c2 = c3 .before .before .before .before in
     let c1 = c2 .before .before .before .before in
     let s = c1 .before .before .before .before in
-    fourth-of-four (s .args .text .now) (s .args .at) (ended planWord space) (ended (numeral (s .args .periods)) space) (ended (numeral (s .args .buckets)) space) (ended (numeral (s .args .cost)) newline) (s .pre) (c1 .put-word .ensures) (c2 .put-number .ensures) (c3 .put-number2 .ensures)
+    fourth-of-four (s .args .text .now) (s .args .at) (field₁ s) (field₂ s) (field₃ s) (field₄ s) (s .pre) (c1 .put-word .ensures) (c2 .put-number .ensures) (c3 .put-number2 .ensures)
 
 same-length : tie.Need-same-length
 same-length c = search needs
@@ -45,7 +59,7 @@ returns c =
     let c2 = c3 .before .before .before .before in
     let c1 = c2 .before .before .before .before in
     let s = c1 .before .before .before .before in
-    four (s .args .text .now) (s .args .at) (ended planWord space) (ended (numeral (s .args .periods)) space) (ended (numeral (s .args .buckets)) space) (ended (numeral (s .args .cost)) newline) (c1 .put-word .ensures) (c2 .put-number .ensures) (c3 .put-number2 .ensures) (c4 .put-number3 .ensures)
+    four (s .args .text .now) (s .args .at) (field₁ s) (field₂ s) (field₃ s) (field₄ s) (c1 .put-word .ensures) (c2 .put-number .ensures) (c3 .put-number2 .ensures) (c4 .put-number3 .ensures)
 
 pub put-plan-line-spec : {M : Type 1} → statement M
 put-plan-line-spec =

@@ -1,4 +1,6 @@
 -- The two fields are stored one behind the other.
+use Prim.Native.Nat.{ℕ}
+use mathlib.Core.List.{List}
 use borrow.Author.Needs.{needs}
 use Rattle.text.specs.Lines.{newline, refusedWord, space}
 use Rattle.text.specs.Numeral.{ended, numeral}
@@ -6,19 +8,25 @@ use Rattle.text.specs.ChainLaws.{first-of-two, second-of-two, two}
 use Rattle.text.proofs.lines.put_refusal_line.Statement.{statement}
 use Rattle.text.proofs.lines.put_refusal_line.Tie as tie
 
+abbrev field₁ : tie.Start → List ℕ
+field₁ s = ended refusedWord space
+
+abbrev field₂ : tie.Start → List ℕ
+field₂ s = ended (numeral (s .args .number)) newline
+
 slice-aggregate-put-word : tie.Need-slice-aggregate-put-word
 slice-aggregate-put-word c = search needs
 
 put-word-requires : tie.Need-put-word-requires
 put-word-requires c κs =
     let s = c .before .before .before in
-    first-of-two (s .args .text .now) (s .args .at) (ended refusedWord space) (ended (numeral (s .args .number)) newline) (s .pre)
+    first-of-two (s .args .text .now) (s .args .at) (field₁ s) (field₂ s) (s .pre)
 
 put-number-requires : tie.Need-put-number-requires
 put-number-requires c κs =
     let c1 = c .before .before .before in
     let s = c1 .before .before .before .before in
-    second-of-two (s .args .text .now) (s .args .at) (ended refusedWord space) (ended (numeral (s .args .number)) newline) (s .pre) (c1 .put-word .ensures)
+    second-of-two (s .args .text .now) (s .args .at) (field₁ s) (field₂ s) (s .pre) (c1 .put-word .ensures)
 
 same-length : tie.Need-same-length
 same-length c = search needs
@@ -28,7 +36,7 @@ returns c =
     let c2 = c .before .before in
     let c1 = c2 .before .before .before .before in
     let s = c1 .before .before .before .before in
-    two (s .args .text .now) (s .args .at) (ended refusedWord space) (ended (numeral (s .args .number)) newline) (c1 .put-word .ensures) (c2 .put-number .ensures)
+    two (s .args .text .now) (s .args .at) (field₁ s) (field₂ s) (c1 .put-word .ensures) (c2 .put-number .ensures)
 
 pub put-refusal-line-spec : {M : Type 1} → statement M
 put-refusal-line-spec =

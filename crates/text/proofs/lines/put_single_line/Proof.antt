@@ -1,4 +1,6 @@
 -- The three parts are stored one behind the other.
+use Prim.Native.Nat.{ℕ}
+use mathlib.Core.List.{List}
 use borrow.Author.Needs.{needs}
 use Rattle.text.specs.Lines.{bucketFields, newline, singleWord, space}
 use Rattle.text.specs.Numeral.{ended, numeral}
@@ -6,26 +8,35 @@ use Rattle.text.specs.ChainLaws.{first-of-three, second-of-three, third-
 use Rattle.text.proofs.lines.put_single_line.Statement.{statement}
 use Rattle.text.proofs.lines.put_single_line.Tie as tie
 
+abbrev field₁ : tie.Start → List ℕ
+field₁ s = ended singleWord space
+
+abbrev field₂ : tie.Start → List ℕ
+field₂ s = bucketFields (s .args .bucket)
+
+abbrev field₃ : tie.Start → List ℕ
+field₃ s = ended (numeral (s .args .cost)) newline
+
 slice-aggregate-put-word : tie.Need-slice-aggregate-put-word
 slice-aggregate-put-word c = search needs
 
 put-word-requires : tie.Need-put-word-requires
 put-word-requires c κs =
     let s = c .before .before .before in
-    first-of-three (s .args .text .now) (s .args .at) (ended singleWord space) (bucketFields (s .args .bucket)) (ended (numeral (s .args .cost)) newline) (s .pre)
+    first-of-three (s .args .text .now) (s .args .at) (field₁ s) (field₂ s) (field₃ s) (s .pre)
 
 put-bucket-requires : tie.Need-put-bucket-requires
 put-bucket-requires c κs =
     let c1 = c .before .before .before in
     let s = c1 .before .before .before .before in
-    second-of-three (s .args .text .now) (s .args .at) (ended singleWord space) (bucketFields (s .args .bucket)) (ended (numeral (s .args .cost)) newline) (s .pre) (c1 .put-word .ensures)
+    second-of-three (s .args .text .now) (s .args .at) (field₁ s) (field₂ s) (field₃ s) (s .pre) (c1 .put-word .ensures)
 
 put-number-requires : tie.Need-put-number-requires
 put-number-requires c κs =
     let c2 = c .before .before .before in
     let c1 = c2 .before .before .before .before in
     let s = c1 .before .before .before .before in
-    third-of-three (s .args .text .now) (s .args .at) (ended singleWord space) (bucketFields (s .args .bucket)) (ended (numeral (s .args .cost)) newline) (s .pre) (c1 .put-word .ensures) (c2 .put-bucket .ensures)
+    third-of-three (s .args .text .now) (s .args .at) (field₁ s) (field₂ s) (field₃ s) (s .pre) (c1 .put-word .ensures) (c2 .put-bucket .ensures)
 
 same-length : tie.Need-same-length
 same-length c = search needs
@@ -36,7 +47,7 @@ returns c =
     let c2 = c3 .before .before .before .before in
     let c1 = c2 .before .before .before .before in
     let s = c1 .before .before .before .before in
-    three (s .args .text .now) (s .args .at) (ended singleWord space) (bucketFields (s .args .bucket)) (ended (numeral (s .args .cost)) newline) (c1 .put-word .ensures) (c2 .put-bucket .ensures) (c3 .put-number .ensures)
+    three (s .args .text .now) (s .args .at) (field₁ s) (field₂ s) (field₃ s) (c1 .put-word .ensures) (c2 .put-bucket .ensures) (c3 .put-number .ensures)
 
 pub put-single-line-spec : {M : Type 1} → statement M
 put-single-line-spec =

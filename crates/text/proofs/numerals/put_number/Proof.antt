@@ -16,11 +16,15 @@ put-digits-requires c κs =
     let s = c .before .before .before in
     omega (arith, s .pre, c .before .places .ensures, ended-length (numeral (s .args .n)) (s .args .after))
 
+abbrev places-at : tie.After-slice-known2 → tie.After-places
+places-at c = c .before .before .before .before
+
 -- the place behind the digits lies in the text, which has the length that it had
-behind : (c : tie.After-slice-known2) → c .before .before .before .before .before .before .args .at + c .before .before .before .before .places .result < length (c .before .before .before .before .before .before .args .text .now)
+behind : (c : tie.After-slice-known2) → let p = places-at c in let s = p .before .before in s .args .at + p .places .result < length (s .args .text .now)
 behind c =
-    let s = c .before .before .before .before .before .before in
-    omega (arith, s .pre, c .before .before .before .before .places .ensures, ended-length (numeral (s .args .n)) (s .args .after))
+    let p = places-at c in
+    let s = p .before .before in
+    omega (arith, s .pre, p .places .ensures, ended-length (numeral (s .args .n)) (s .args .after))
 
 add-text : tie.Need-add-text
 add-text c = omega (arith, behind c)
@@ -38,7 +42,7 @@ same-length : tie.Need-same-length
 same-length c = search needs
 
 returns : tie.Need-returns
-returns c = puts-number _ _ _ _ _ _ (omega (arith, c .before .before .before .before .before .before .fits .n .fits)) (c .before .before .before .before .places .ensures) (c .before .before .put-digits .ensures)
+returns c = puts-number _ _ _ _ _ _ (omega (arith, places-at c .before .before .fits .n .fits)) (places-at c .places .ensures) (c .before .before .put-digits .ensures)
 
 pub put-number-spec : {M : Type 1} → statement M
 put-number-spec =
