@@ -32,15 +32,6 @@ abbrev pub numberIn : List ℕ → Option ℕ
 numberIn [] = none
 numberIn (b ∷ bs) = numberFrom 0 (b ∷ bs)
 
--- a number of 32 bits has as many digits at the most
-abbrev pub digitsLimit : ℕ
-digitsLimit = 10
-
--- The decimal digits of a number below 10 ^ w, the most significant first, with no zeros in front.
-unfoldable pub digitsOf : ℕ → ℕ → List ℕ
-digitsOf zero n = []
-digitsOf (suc w) n = cond (leb 10 n) (digitsOf w (n / 10)) [] ++ (48 + n % 10) ∷ []
-
 -- ---- The answers' cases in these values
 
 abbrev pub numberSays : NumberAnswer → Option ℕ

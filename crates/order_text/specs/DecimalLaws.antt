@@ -2,7 +2,7 @@
 -- Assumes nothing.
 use Prim.Native.Nat.{ℕ, zero, suc, _+_, _-_, _*_, _/_, _%_, _^_, _≤_, _<_}
 use native.Mathlib.Omega.{arith}
-use native.Mathlib.Nat.{zero-lt-suc, div-lt-iff-lt-mul, mod-add-div, mod-lt, mod-eq-of-lt, pow-suc}
+use native.Mathlib.Nat.{zero-lt-suc, mod-add-div, mod-lt}
 use mathlib.Core.Path.{_≡_, refl, sym, ap, subst, _∙_}
 use mathlib.Core.Bool.{Bool, true, false, cond}
 use mathlib.Core.List.{List, [], _∷_, _++_}
@@ -13,7 +13,9 @@ use lib.ListN.{length, drop, getD, length-append, drop-of-length-le}
 use Rattle.terms.specs.Bools.{and-both, both-and}
 use Rattle.terms.specs.Records.{Each}
 use Rattle.encoding.specs.StoreLaws.{drop-next}
-use Rattle.order_text.specs.Decimal.{isDigit, pushed, numberLimit, numberFrom, numberIn, digitsLimit, digitsOf}
+use Rattle.text.specs.Numeral.{digit, numeralIn, numeral}
+use Rattle.text.specs.NumeralLaws.{by-digits, numeral-small, numeral-large}
+use Rattle.order_text.specs.Decimal.{isDigit, pushed, numberLimit, numberFrom, numberIn}
 
 pub record DigitRange (b : ℕ) : Type 0 where
   pub from : 48 ≤ b
@@ -94,30 +96,43 @@ digits-append : (bs : List ℕ) (b : ℕ) → Digits bs → isDigit b ≡ true �
 digits-append [] b ds h = (h, tt)
 digits-append (a ∷ bs) b ds h = (ds .0, digits-append bs b (ds .1) h)
 
-last-digit : (n : ℕ) → isDigit (48 + n % 10) ≡ true
-last-digit n =
-    let l : n % 10 < 10 = mod-lt n (zero-lt-suc 9) in
-    both-and (le-leb 48 (48 + n % 10) (omega arith)) (le-leb (48 + n % 10) 57 (omega arith))
+is-digit : (n : ℕ) → n < 10 → isDigit (digit n) ≡ true
+is-digit n h = both-and (le-leb 48 (digit n) (omega arith)) (le-leb (digit n) 57 (omega (arith, h)))
 
-pub digits-are : (w n : ℕ) → Digits (digitsOf w n)
-unfolding digitsOf
-digits-are zero n = tt
-digits-are (suc w) n = digits-append (cond (leb 10 n) (digitsOf w (n / 10)) []) (48 + n % 10) (go (leb 10 n) (digits-are w (n / 10))) (last-digit n)
-  where
-    go : (t : Bool) → Digits (digitsOf w (n / 10)) → Digits (cond t (digitsOf w (n / 10)) [])
-    go true ds = ds
-    go false ds = tt
+last-digit : (n : ℕ) → isDigit (digit (n % 10)) ≡ true
+last-digit n = is-digit (n % 10) (mod-lt n (zero-lt-suc 9))
 
-pub value-digits : (w n : ℕ) → n < 10 ^ w → valueFrom 0 (digitsOf w n) ≡ n
-unfolding digitsOf valueFrom
-value-digits zero n h = omega arith
-value-digits (suc w) n h =
-    let m = div-lt-iff-lt-mul (zero-lt-suc 9) .1 (subst (λ (x : ℕ). n < x) (pow-suc 10 w) h) in
-    value-append 0 (cond (leb 10 n) (digitsOf w (n / 10)) []) (48 + n % 10) ∙ go (leb 10 n) refl (value-digits w (n / 10) m)
+pub digits-are : (n : ℕ) → n < 10 ^ 20 → Digits (numeral n)
+digits-are = by-digits (λ more n. Digits (numeralIn more n)) one next 19
   where
-    go : (t : Bool) → leb 10 n ≡ t → valueFrom 0 (digitsOf w (n / 10)) ≡ n / 10 → valueFrom 0 (cond t (digitsOf w (n / 10)) []) * 10 + (48 + n % 10 - 48) ≡ n
-    go true e k = omega (arith, mod-add-div n 10)
-    go false e k = omega (arith, leb-false 10 n e, mod-eq-of-lt {n = n} {m = 10} (leb-false 10 n e))
+    one : (more n : ℕ) → n < 10 → Digits (numeralIn more n)
+    one more n h = subst Digits (sym (numeral-small more n h)) (is-digit n h, tt)
+
+    next : (more n : ℕ) → 10 ≤ n → Digits (numeralIn more (n / 10)) → Digits (numeralIn (suc more) n)
+    next more n h ds = subst Digits (sym (numeral-large more n h)) (digits-append (numeralIn more (n / 10)) (digit (n % 10)) ds (last-digit n))
+
+pub value-digits : (n : ℕ) → n < 10 ^ 20 → valueFrom 0 (numeral n) ≡ n
+unfolding valueFrom
+value-digits = by-digits (λ more n. valueFrom 0 (numeralIn more n) ≡ n) one next 19
+  where
+    one : (more n : ℕ) → n < 10 → valueFrom 0 (numeralIn more n) ≡ n
+    one more n h = ap (valueFrom 0) (numeral-small more n h) ∙ omega arith
+
+    next : (more n : ℕ) → 10 ≤ n → valueFrom 0 (numeralIn more (n / 10)) ≡ n / 10 → valueFrom 0 (numeralIn (suc more) n) ≡ n
+    next more n h e =
+        ap (valueFrom 0) (numeral-large more n h)
+        ∙ value-append 0 (numeralIn more (n / 10)) (digit (n % 10))
+        ∙ omega (arith, e, mod-add-div n 10)
+
+-- There is at least one.
+pub digits-some : (n : ℕ) → n < 10 ^ 20 → 0 < length (numeral n)
+digits-some = by-digits (λ more n. 0 < length (numeralIn more n)) one next 19
+  where
+    one : (more n : ℕ) → n < 10 → 0 < length (numeralIn more n)
+    one more n h = omega (arith, ap length (numeral-small more n h))
+
+    next : (more n : ℕ) → 10 ≤ n → 0 < length (numeralIn more (n / 10)) → 0 < length (numeralIn (suc more) n)
+    next more n h l = omega (arith, ap length (numeral-large more n h), length-append (numeralIn more (n / 10)) (digit (n % 10) ∷ []))
 
 -- The digits of a number of 32 bits are read back as that number.
 number-digits : (v : ℕ) (bs : List ℕ) → Digits bs → valueFrom v bs ≤ numberLimit → numberFrom v bs ≡ some (valueFrom v bs)
@@ -128,12 +143,8 @@ number-digits v (b ∷ bs) ds l =
     let e = push-within numberLimit v b (omega (arith, value-grows n bs)) in
     rw (ds .0, e) (number-digits n bs (ds .1) l)
 
--- There is at least one.
-pub digits-some : (w n : ℕ) → 0 < length (digitsOf (suc w) n)
-unfolding digitsOf
-digits-some w n = omega (arith, length-append (cond (leb 10 n) (digitsOf w (n / 10)) []) ((48 + n % 10) ∷ []))
-
-pub number-printed : (n : ℕ) → n ≤ numberLimit → numberIn (digitsOf digitsLimit n) ≡ some n
+pub number-printed : (n : ℕ) → n ≤ numberLimit → numberIn (numeral n) ≡ some n
 number-printed n l =
-    let e = value-digits digitsLimit n (omega arith) in
-    sym (number-begin _ (digits-some 9 n)) ∙ number-digits 0 (digitsOf digitsLimit n) (digits-are digitsLimit n) (omega (arith, e)) ∙ ap some e
+    let h : n < 10 ^ 20 = omega (arith, l) in
+    let e = value-digits n h in
+    sym (number-begin _ (digits-some n h)) ∙ number-digits 0 (numeral n) (digits-are n h) (omega (arith, e, l)) ∙ ap some e

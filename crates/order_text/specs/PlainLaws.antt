@@ -14,7 +14,9 @@ use Rattle.terms.specs.Limits.{demandLimit, feeLimit}
 use Rattle.terms.specs.Ranges.{factorOk}
 use Rattle.terms.specs.Records.{Each}
 use Rattle.encoding.specs.Number.{bytesOfAll}
-use Rattle.order_text.specs.Decimal.{isDigit, digitsLimit, digitsOf}
+use Rattle.text.specs.Numeral.{numeral, ended}
+use Rattle.order_text.specs.Decimal.{isDigit}
+use Rattle.text.specs.Numeral.{numeral, ended}
 use Rattle.order_text.specs.DecimalLaws.{push-within, valueFrom, Digits, value-grows, value-digits, digits-are, digits-some}
 use Rattle.order_text.specs.Text.{Reading, read, onRead, thenRead, tariffLimits, limitOf, figuresLimit, factorStands, Scan, newline, passed, withValue, afterByte, scanned, figuresOf, plainText}
 use Rattle.order_text.specs.ScanLaws.{digit-value, closed-figure, after-digit, after-end, text-closed, enough-all}
@@ -64,13 +66,13 @@ after-newline line n ns h =
     after-end (withValue (between line ns) n) newline refl refl refl
     ∙ ap (onRead (λ t. passed t newline)) (closed-figure (withValue (between line ns) n) refl h)
 
-after-figure : (line n : ℕ) (ns rest : List ℕ) → length ns < figuresLimit → n ≤ limitOf (length ns) → n < 10 ^ digitsLimit → factorStands (length ns) (getD ns 3 0) n ≡ true
-    → scanned (between line ns) ((digitsOf digitsLimit n ++ newline ∷ []) ++ rest) ≡ scanned (between (line + 1) (ns ++ n ∷ [])) rest
+after-figure : (line n : ℕ) (ns rest : List ℕ) → length ns < figuresLimit → n ≤ limitOf (length ns) → n < 10 ^ 20 → factorStands (length ns) (getD ns 3 0) n ≡ true
+    → scanned (between line ns) (ended (numeral n) newline ++ rest) ≡ scanned (between (line + 1) (ns ++ n ∷ [])) rest
 unfolding scanned
 after-figure line n ns rest room l few h =
-    let e = value-digits digitsLimit n few in
-    ap (scanned (between line ns)) (append-snoc (digitsOf digitsLimit n) newline rest)
-    ∙ after-word (between line ns) refl room (newline ∷ rest) (digitsOf digitsLimit n) refl (digits-some 9 n) (digits-are digitsLimit n) (omega (arith, e))
+    let e = value-digits n few in
+    ap (scanned (between line ns)) (append-snoc (numeral n) newline rest)
+    ∙ after-word (between line ns) refl room (newline ∷ rest) (numeral n) refl (digits-some n few) (digits-are n few) (omega (arith, e))
     ∙ ap (λ (v : ℕ). scanned (withValue (between line ns) v) (newline ∷ rest)) e
     ∙ ap (λ (a : Reading Scan). thenRead a (λ t. scanned t rest)) (after-newline line n ns h)
 

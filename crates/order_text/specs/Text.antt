@@ -14,12 +14,13 @@ use Rattle.terms.specs.Ranges.{factorOk}
 use Rattle.terms.specs.Refusals.{numberOf}
 use Rattle.encoding.specs.Number.{bytesOfAll}
 use Rattle.order_file.specs.Order.{writeOrder}
+use Rattle.text.specs.Numeral.{numeral, ended}
 use Rattle.order_text.specs.declared.faults.Cause.{Cause}
 use Rattle.order_text.specs.declared.faults.Cause.the-variants.{Byte, Above, Factor, Many, Few}
 use Rattle.order_text.specs.declared.faults.Fault.{Fault}
 use Rattle.order_text.specs.declared.orders.TextAnswer.{TextAnswer}
 use Rattle.order_text.specs.declared.orders.TextAnswer.the-variants.{Written, Faulty, Refused}
-use Rattle.order_text.specs.Decimal.{isDigit, pushed, digitsLimit, digitsOf}
+use Rattle.order_text.specs.Decimal.{isDigit, pushed}
 
 -- What a text gives, or its first fault.
 pub data Reading (A : Type 0) : Type 0 where
@@ -146,7 +147,7 @@ figuresOf text = thenRead (thenRead (scanned started text) closed) enough
 
 -- The plain text of figures: the digits of each, and a newline.
 abbrev pub plainText : List ℕ → List ℕ
-plainText ns = bytesOfAll (λ n. digitsOf digitsLimit n ++ newline ∷ []) ns
+plainText ns = bytesOfAll (λ n. ended (numeral n) newline) ns
 
 -- ---- The order
 

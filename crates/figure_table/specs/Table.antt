@@ -27,7 +27,7 @@ use Rattle.terms.specs.Records.{Cutting}
 use Rattle.text.specs.Numeral.{digits, numeralIn}
 use Rattle.text.specs.Megabits.{megabits}
 use Rattle.sheets.specs.Sheet.{runLines, sheetText}
-use Rattle.figures.specs.Rows.{Row, allRight, Hold, all-hold}
+use Rattle.figure_table.specs.Rows.{Row, allRight, Hold, all-hold}
 
 -- the factor of the printed case
 half : Factor
