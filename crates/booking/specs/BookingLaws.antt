@@ -29,10 +29,11 @@ use Rattle.order_file.specs.declared.orders.Order.{Order}
 use Rattle.order_file.specs.Order.{traceOffset, tariffIn, readOrder, tracePart, demandsIn}
 use Rattle.order_file.specs.OrderLaws.{demands-count}
 use Rattle.order_file.specs.OrderRules.{read-rules, part-read, length-demands}
+use Rattle.order_file.specs.OrderedLaws.{spread-demands, ordered-as}
 use Rattle.plan_file.specs.PlanRules.{CountsRange}
 use Rattle.plan_file.specs.RecordLaws.{RecordsRange, noRecord}
 use Rattle.planning.specs.Planning.{Planned}
-use Rattle.planning.specs.PlannedLaws.{IsPlanned, spread-demands, ordered-as, planned-cheapest, carried-sum, carried-some, served-range}
+use Rattle.planning.specs.PlannedLaws.{IsPlanned, planned-cheapest, carried-sum, carried-some, served-range}
 use Rattle.booking.specs.Booking.{metersOf}
 use Rattle.booking.specs.Claim.{periodsIn, demandsAt, SeriesAnswer}
 

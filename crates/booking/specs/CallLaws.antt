@@ -15,12 +15,13 @@ use Rattle.terms.specs.Lent.{filled, roomOf}
 use Rattle.terms.specs.Records.{Cutting, runLength, total}
 use Rattle.bucket.specs.declared.meters.Meter.{Meter}
 use Rattle.series.specs.Series as series
+use Rattle.order_file.specs.Ordered.{spreadFrom}
 use Rattle.plan_file.specs.declared.plans.PlanFigures.{PlanFigures}
 use Rattle.plan_file.specs.Plan.{Recorded, readPlan, writePlan, figuresOf, bucketsOf, recordsOf}
 use Rattle.plan_file.specs.PlanLaws.{write-read, lists-hold}
 use Rattle.plan_file.specs.PlanRules.{CountsRange, WriteRules, write-rules, length-records}
 use Rattle.planning.specs.declared.orders.PlannedOrder.{PlannedOrder}
-use Rattle.planning.specs.Planning.{RecordLists, Planned, PlansOrder, lists, roomIn, withRecords, plannedFigures, spreadFrom, cuttingOf}
+use Rattle.planning.specs.Planning.{RecordLists, Planned, PlansOrder, lists, roomIn, withRecords, plannedFigures, cuttingOf}
 use Rattle.planning.specs.CallLaws.{Filled, fills-front, front-count, lists-are, room-kept, found-plan, trace-is, plan-is}
 use Rattle.booking.specs.declared.calls.Booking.{Booking}
 use Rattle.booking.specs.declared.metering.MeterTotals.{MeterTotals}

@@ -22,11 +22,13 @@ use Rattle.order_file.specs.declared.orders.Order.{Order}
 use Rattle.order_file.specs.Order.{tariffIn, readOrder, tracePart, spreadOf}
 use Rattle.order_file.specs.OrderLaws.{demands-count, read-spread}
 use Rattle.order_file.specs.OrderRules.{OrderRules, orderIn, rules-read, read-rules}
+use Rattle.order_file.specs.Ordered.{Ordered, ordered}
+use Rattle.order_file.specs.OrderedLaws.{found-ordered}
 use Rattle.plan_file.specs.Plan.{Recorded, fitting, planIn, recordsOf}
 use Rattle.plan_file.specs.PlanLaws.{lists-hold}
 use Rattle.booking.specs.declared.calls.Booking.{Booking}
-use Rattle.planning.specs.Planning.{RecordLists, Ordered, Planned, lists, roomIn, ordered, plannedRuns}
-use Rattle.planning.specs.PlannedLaws.{found-ordered, IsPlanned, is-planned}
+use Rattle.planning.specs.Planning.{RecordLists, Planned, lists, roomIn, plannedRuns}
+use Rattle.planning.specs.PlannedLaws.{IsPlanned, is-planned}
 use Rattle.booking.specs.Booking.{Lent, Steps, lent, plannedFor, booked, answerOf, lentAfter}
 use Rattle.booking.specs.BookingLaws.{order-demands, planned-series}
 use Rattle.booking.specs.Claim.{periodsIn, demandsAt, CarriedIn, SeriesAnswer, LongEnough, InsideCaps, Kept, Demand3, Claim}

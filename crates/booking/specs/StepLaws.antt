@@ -27,13 +27,15 @@ use Rattle.order_file.specs.declared.orders.Order.{Order}
 use Rattle.order_file.specs.Order.{readOrder, tracePart, spreadOf}
 use Rattle.order_file.specs.OrderLaws.{demands-count}
 use Rattle.order_file.specs.OrderRules.{read-rules, spread-rules}
+use Rattle.order_file.specs.Ordered.{ordered, spreadFrom}
+use Rattle.order_file.specs.OrderedLaws.{is-ordered, found-spread, ordered-count, ordered-range}
 use Rattle.plan_file.specs.Plan.{Recorded, countsOk, planLength, planBytes, readPlan, writePlan, bucketsOf, recordsOf}
 use Rattle.plan_file.specs.PlanLaws.{write-read, lists-hold}
 use Rattle.plan_file.specs.PlanRules.{counts-ok, write-figures}
 use Rattle.plan_file.specs.RecordLaws.{RecordsRange, records-ok}
 use Rattle.booking.specs.declared.calls.Booking.{Booking}
-use Rattle.planning.specs.Planning.{RecordLists, Planned, lists, roomIn, withRecords, ordered, spreadFrom, cuttingOf}
-use Rattle.planning.specs.PlannedLaws.{is-ordered, found-spread, IsPlanned, is-planned, ordered-count, ordered-range, planned-cheapest}
+use Rattle.planning.specs.Planning.{RecordLists, Planned, lists, roomIn, withRecords, cuttingOf}
+use Rattle.planning.specs.PlannedLaws.{IsPlanned, is-planned, planned-cheapest}
 use Rattle.planning.specs.CallLaws.{room-kept}
 use Rattle.booking.specs.Booking.{Lent, Recording, Steps, lent, plannedFor, planFigures, readBack, metersOf, recordingFor, booked, lentAfter}
 use Rattle.booking.specs.BookingLaws.{PlanRange, NothingOver, carried-plan, carried-meters, file-demands, planned-demands}

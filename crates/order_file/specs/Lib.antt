@@ -2,3 +2,5 @@
 pub mod Order
 pub mod OrderRules
 pub mod OrderLaws
+pub mod Ordered
+pub mod OrderedLaws

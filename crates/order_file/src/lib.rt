@@ -1,6 +1,7 @@
 // The order file, read and written. A writer fills the front of the lent bytes; a refusal changes
 // nothing that is lent.
 mod orders;
+pub mod spreads;
 mod traces;
 
 pub use orders::Order;

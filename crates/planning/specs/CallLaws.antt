@@ -1,8 +1,8 @@
--- What the calls up to planning leave, call by call.
+-- What planning leaves, call by call.
 -- Assumes nothing.
 use Prim.Native.Nat.{ℕ, _≤_}
 use native.Mathlib.Omega.{arith}
-use mathlib.Core.Path.{_≡_, refl, sym, ap, ap₂, subst, _∙_}
+use mathlib.Core.Path.{_≡_, refl, sym, ap, ap₂, _∙_}
 use mathlib.Core.List.{List, map}
 use lib.ListN.{length, take, length-append, length-drop, length-map, length-take}
 use Rattle.terms.specs.declared.BucketRecord.{BucketRecord}
@@ -10,16 +10,16 @@ use Rattle.terms.specs.Answer.{Answer, figures, refused, onFigures}
 use Rattle.terms.specs.AnswerLaws.{on-figures, on-refused, then-figures, then-refused}
 use Rattle.terms.specs.Lent.{filled, recorded}
 use Rattle.terms.specs.LentLaws.{Lists, rooms, filled-front}
-use Rattle.terms.specs.RangeLaws.{PeriodsRange, TariffRange}
 use Rattle.terms.specs.Records.{Cutting, runLength, runRate, runDepth}
 use Rattle.series.specs.declared.plans.Plan.{Plan}
 use Rattle.series.specs.Series.{seriesOf}
 use Rattle.series.specs.Series as series
 use Rattle.order_file.specs.declared.orders.Order.{Order}
-use Rattle.order_file.specs.Order.{readOrder, tracePart, spreadOf}
+use Rattle.order_file.specs.Ordered.{Ordered, ordered, SpreadsOrder}
+use Rattle.order_file.specs.OrderedLaws.{found-order, demands-are, ordered-count, found-spread}
 use Rattle.planning.specs.declared.orders.PlannedOrder.{PlannedOrder}
-use Rattle.planning.specs.Planning.{RecordLists, Ordered, Planned, lists, roomIn, withRecords, ordered, SpreadsOrder, planned, plannedRuns, plannedFigures, cuttingOf, PlansOrder}
-use Rattle.planning.specs.PlannedLaws.{IsOrdered, is-ordered, found-spread, ordered-count, ordered-range, IsPlanned, is-planned}
+use Rattle.planning.specs.Planning.{RecordLists, Planned, lists, roomIn, withRecords, planned, plannedRuns, plannedFigures, cuttingOf, PlansOrder}
+use Rattle.planning.specs.PlannedLaws.{IsPlanned, is-planned}
 
 -- What fills the front of a list, read off it: as many entries as there are.
 module _ (a : Answer (List ℕ)) (old new : List ℕ) (n : ℕ) (e : figures n ≡ onFigures length a) (f : new ≡ filled a old) where
@@ -56,73 +56,6 @@ room-kept xs back l =
   where
     kept : (figure : BucketRecord → ℕ) (old : List ℕ) → length xs ≤ length old → length (recorded figure (figures xs) old) ≡ length old
     kept figure old m = length-append (map figure xs) _ ∙ omega (arith, length-map xs figure, length-drop (length (map figure xs)) old)
-
--- ---- The order read and its trace spread
-
-module _ (bs demands : List ℕ) where
-  abbrev reading : Answer Ordered
-  reading = ordered (length demands) bs
-
-  spread-as : (a : Answer Ordered) → reading ≡ a → (demands′ : List ℕ) → demands′ ≡ filled (onFigures (λ x. x .demands) a) demands
-      → SpreadsOrder bs demands demands′ (onFigures (λ x. x .order) a)
-  spread-as a e demands′ d =
-      record { answers = ap (onFigures (λ x. x .order)) (sym e); spreads = d ∙ ap (λ (b : Answer Ordered). filled (onFigures (λ x. x .demands) b) demands) (sym e) }
-
-  pub order-refused : (n : ℕ) → readOrder bs ≡ refused n → SpreadsOrder bs demands demands (refused n)
-  order-refused n e = spread-as (refused n) (sym (then-refused (readOrder bs) _ e)) demands refl
-
-  module _ (o : Order) (e : readOrder bs ≡ figures o) (part : List ℕ) (p : part ≡ tracePart bs) where
-    abbrev spreading : Answer (List ℕ)
-    spreading = spreadOf (length demands) part
-
-    abbrev with-order : List ℕ → Ordered
-    with-order ds = record { order = o; demands = ds }
-
-    reading-is : reading ≡ onFigures with-order spreading
-    reading-is = sym (then-figures (readOrder bs) _ e) ∙ ap (λ (ys : List ℕ). onFigures with-order (spreadOf (length demands) ys)) (sym p)
-
-    module _ (demands′ : List ℕ) (d : demands′ ≡ filled spreading demands) where
-      pub spread-refused : (n : ℕ) → refused n ≡ onFigures length spreading → SpreadsOrder bs demands demands′ (refused n)
-      spread-refused n f =
-          let g : spreading ≡ refused n = on-refused length spreading (sym f) in
-          spread-as (refused n) (reading-is ∙ ap (onFigures with-order) g) demands′ (d ∙ ap (λ (a : Answer (List ℕ)). filled a demands) g)
-
-      pub spread-found : (n : ℕ) → figures n ≡ onFigures length spreading → SpreadsOrder bs demands demands′ (figures o)
-      spread-found n f =
-          let g = on-figures length spreading (sym f) in
-          spread-as (figures (with-order (g .0))) (reading-is ∙ ap (onFigures with-order) (g .1)) demands′ (d ∙ ap (λ (a : Answer (List ℕ)). filled a demands) (g .1))
-
--- An order that was found.
-module _ (bs demands demands′ : List ℕ) (found : Answer Order) (p : SpreadsOrder bs demands demands′ found) (o : Order) (f : found ≡ figures o) where
-  pub found-order : (x : Ordered) × (ordered (length demands) bs ≡ figures x) × (x .order ≡ o)
-  found-order = on-figures (λ x. x .order) (ordered (length demands) bs) (sym (p .answers) ∙ f)
-
-  abbrev pub order-as : Ordered
-  order-as = found-order .0
-
-  pub order-is : IsOrdered (length demands) bs order-as
-  order-is = is-ordered (length demands) bs order-as (found-order .1)
-
-  count-is : o .periods ≡ length (order-as .demands)
-  count-is = ap (λ (z : Order). z .periods) (sym (found-order .2)) ∙ sym (ordered-count order-is)
-
-  -- the T numbers spread
-  pub demands-are : take (o .periods) demands′ ≡ order-as .demands
-  demands-are =
-      ap (λ (n : ℕ). take n demands′) count-is
-      ∙ ap (take (length (order-as .demands))) (p .spreads ∙ ap (λ (a : Answer Ordered). filled (onFigures (λ x. x .demands) a) demands) (found-order .1))
-      ∙ filled-front (order-as .demands) demands
-
-  pub demands-count : length (take (o .periods) demands′) ≡ o .periods
-  demands-count = ap length demands-are ∙ sym count-is
-
-  pub demands-inside : o .periods ≤ length demands′
-  demands-inside = omega (arith, demands-count, length-take (o .periods) demands′)
-
-  pub order-range : PeriodsRange (length (take (o .periods) demands′)) × TariffRange (o .tariff)
-  order-range =
-      let r = ordered-range order-is in
-      (subst (λ (ds : List ℕ). PeriodsRange (length ds)) (sym demands-are) (r .0), subst (λ (z : Order). TariffRange (z .tariff)) (found-order .2) (r .1))
 
 -- ---- The series planned
 

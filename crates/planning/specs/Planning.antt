@@ -10,7 +10,7 @@ use Rattle.terms.specs.Records.{Cutting, runLength, runRate, runDepth}
 use Rattle.terms.specs.Refusals.{numberOf}
 use Rattle.series.specs.Series.{trueCost, seriesOf}
 use Rattle.order_file.specs.declared.orders.Order.{Order}
-use Rattle.order_file.specs.Order.{readOrder, tracePart, spreadOf}
+use Rattle.order_file.specs.Ordered.{ordered, spreadFrom}
 use Rattle.planning.specs.declared.orders.PlannedOrder.{PlannedOrder}
 use Rattle.planning.specs.declared.orders.PlannedAnswer.{PlannedAnswer}
 use Rattle.planning.specs.declared.orders.PlannedAnswer.the-variants.{Found, Refused}
@@ -34,26 +34,6 @@ roomIn l = roomOf (l .runs) (l .rates) (l .depths)
 -- Lists with the records of an answer at their front; on a refusal they are as they were.
 abbrev pub withRecords : Answer Cutting → RecordLists → RecordLists
 withRecords a old = record { runs = recorded runLength a (old .runs); rates = recorded runRate a (old .rates); depths = recorded runDepth a (old .depths) }
-
--- ---- The order and its demands
-
--- What an order says, and the T numbers of its trace.
-pub record Ordered : Type 0 where
-  pub order : Order
-  pub demands : List ℕ
-
--- The order is read; its trace part is handed back and spread, into `space` entries.
-abbrev pub ordered : ℕ → List ℕ → Answer Ordered
-ordered space bs = andThen (readOrder bs) (λ o. onFigures (λ ds. record { order = o; demands = ds }) (spreadOf space (tracePart bs)))
-
--- The demands alone.
-abbrev pub spreadFrom : ℕ → List ℕ → Answer (List ℕ)
-spreadFrom space bs = onFigures (λ x. x .demands) (ordered space bs)
-
--- What is answered, and what the list of demands then holds.
-pub record SpreadsOrder (bs demands demands′ : List ℕ) (answer : Answer Order) : Type 0 where
-  pub answers : answer ≡ onFigures (λ x. x .order) (ordered (length demands) bs)
-  pub spreads : demands′ ≡ filled (spreadFrom (length demands) bs) demands
 
 -- ---- Planning
 

@@ -1,11 +1,8 @@
 // The calls up to planning, on what a caller lends. Public only for the crates above: after a refusal
 // to plan the demands stay spread.
-use encoding::FillAnswer;
 use order_file::Order;
 use order_file::OrderAnswer;
-use order_file::read_order;
-use order_file::spread;
-use order_file::trace_part;
+use order_file::spreads::spread_order;
 use series::Plan;
 use series::SeriesAnswer;
 use series::series;
@@ -13,8 +10,7 @@ use terms::Refusal;
 ghost use mathlib.Core.Path.{_≡_};
 ghost use Rattle.terms.specs.Answer.{onFigures};
 ghost use Rattle.series.specs.Series.{seriesSays};
-ghost use Rattle.order_file.specs.Order.{orderSays};
-ghost use Rattle.planning.specs.Planning.{PlansOrder, SpreadsOrder, lists, plannedSays};
+ghost use Rattle.planning.specs.Planning.{PlansOrder, lists, plannedSays};
 ghost use Rattle.planning.specs.CallLaws.{withOrder};
 
 // What an order says and the plan found for it.
@@ -26,21 +22,6 @@ pub struct PlannedOrder {
 pub enum PlannedAnswer {
     Found(PlannedOrder),
     Refused(Refusal),
-}
-
-// Reads the order and spreads its trace's part into the demands; or refusal 1 to 6, and the demands
-// are as they were.
-pub fn spread_order(order: &[u8], demands: &mut [u16]) -> OrderAnswer
-    ensures { λ r. ⌜ SpreadsOrder (now (order .entry)) (now (demands .entry)) (now (demands .exit)) (orderSays r) ⌝ }
-{
-    let found = match read_order(order) {
-        OrderAnswer::Read(x) => x,
-        OrderAnswer::Refused(why) => return OrderAnswer::Refused(why),
-    };
-    match spread(trace_part(order), demands) {
-        FillAnswer::Filled(_) => OrderAnswer::Read(found),
-        FillAnswer::Refused(why) => OrderAnswer::Refused(why),
-    }
 }
 
 // Reads the order, spreads its trace's part into the demands, and plans the series with the tariff

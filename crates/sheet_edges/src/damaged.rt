@@ -1,7 +1,7 @@
 // Damaged orders: the printed case's with one byte changed, and with bytes missing or one too many.
-use crate::services::bucket_of;
-use crate::services::services;
-use crate::services::sheet_in;
+use crate::orders::bucket_of;
+use crate::orders::services;
+use crate::orders::sheet_in;
 use order_file::write_order;
 use samples::file_bytes::FILE_ROOM;
 use samples::file_bytes::LENT;

@@ -1,5 +1,5 @@
 // Figures in megabits, each in a text one byte too short, just long enough and longer.
-use crate::services::print;
+use crate::orders::print;
 use samples::file_bytes::LENT;
 use samples::file_bytes::LENT_BYTES;
 use samples::file_bytes::lent_front;

@@ -1,6 +1,6 @@
 // Orders of 512 periods, and the file of 513.
-use crate::services::bucket_of;
-use crate::services::services;
+use crate::orders::bucket_of;
+use crate::orders::services;
 use order_file::write_order;
 use samples::file_bytes::LENT;
 use samples::file_bytes::LENT_BYTES;

@@ -3,10 +3,10 @@
 mod damaged;
 mod figures;
 mod long;
+mod orders;
 mod refusals;
 mod rooms;
 mod rows;
-mod services;
 mod small;
 
 fn main() {

@@ -1,7 +1,7 @@
 // Texts around the length of what is written: 56 bytes for the printed case's sheet, 22 for its
 // single bucket and 19 for its trial; and refusals where there is no room either.
-use crate::services::bucket_of;
-use crate::services::services_of;
+use crate::orders::bucket_of;
+use crate::orders::services_of;
 use samples::tariffs::from_empty;
 use samples::tariffs::printed_case;
 use samples::traces::CASE;

@@ -1,6 +1,6 @@
 // The rows of document 01 that a service prints, each with a bucket for the trial.
-use crate::services::bucket_of;
-use crate::services::services_of;
+use crate::orders::bucket_of;
+use crate::orders::services_of;
 use samples::file_bytes::LENT_BYTES;
 use samples::tariffs::from_empty;
 use samples::tariffs::full;

@@ -1,7 +1,7 @@
 // Small orders by a simple rule: one to five demands of 0 to 7, a tariff with small caps, and a
 // bucket for the trial.
-use crate::services::bucket_of;
-use crate::services::services_of;
+use crate::orders::bucket_of;
+use crate::orders::services_of;
 use samples::demands::part_of;
 use samples::file_bytes::LENT_BYTES;
 use samples::tariffs::caps_of;

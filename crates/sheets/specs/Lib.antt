@@ -1,7 +1,5 @@
 -- The definitions that contracts cite, in reading order, and their laws.
 pub mod Sheet
-pub mod Services
 pub mod RunLaws
 pub mod LengthLaws
 pub mod SheetLaws
-pub mod ServiceLaws

@@ -20,6 +20,7 @@ use Rattle.series.specs.Cutting.{none, run}
 use Rattle.series.specs.Series.{Carried, trueCost}
 use Rattle.series.specs.OutlineLaws.{carried-count, carried-cost}
 use Rattle.encoding.specs.FillLaws.{Fills, fill-refused}
+use Rattle.order_file.specs.OrderedLaws.{ordered-count, ordered-range}
 use Rattle.plan_file.specs.Plan.{recordsOf}
 use Rattle.plan_file.specs.PlanLaws.{lists-hold}
 use Rattle.text.specs.Fitted.{fitted}
@@ -28,7 +29,7 @@ use Rattle.text.specs.PutLaws.{Puts, Room}
 use Rattle.text.specs.ChainLaws.{first-of-two, second-of-two, two}
 use Rattle.planning.specs.declared.orders.PlannedOrder.{PlannedOrder}
 use Rattle.planning.specs.Planning.{RecordLists, Planned, PlansOrder, lists, roomIn, planned, plannedFigures}
-use Rattle.planning.specs.PlannedLaws.{ordered-count, ordered-range, planned-cheapest, carried-sum, served-range}
+use Rattle.planning.specs.PlannedLaws.{planned-cheapest, carried-sum, served-range}
 use Rattle.planning.specs.CallLaws.{room-kept, found-plan, found-as, found-is, trace-is, trace-inside, plan-is}
 use Rattle.sheets.specs.Sheet.{runLines, sheetText, sheetIn}
 use Rattle.sheets.specs.RunLaws.{Printable}

@@ -1,10 +1,7 @@
-// The three services as text, from an order file: the trial, the single bucket, and the sheet of the
-// series.
+// The printed sheet of the series, from an order file.
 mod plans;
+mod printed;
 mod runs;
-mod services;
 
 pub use plans::LONGEST_SHEET;
-pub use services::sheet;
-pub use services::single_line;
-pub use services::trial_line;
+pub use printed::sheet;

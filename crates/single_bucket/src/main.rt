@@ -3,7 +3,7 @@ use console::ORDER_ROOM;
 use console::has_words;
 use console::print;
 use console::read_all;
-use sheets::single_line;
+use services::single_line;
 
 fn main() {
     if !has_words(

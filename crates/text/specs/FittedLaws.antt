@@ -7,7 +7,7 @@ use mathlib.Core.Path.{_≡_, refl, sym, ap, subst}
 use mathlib.Core.Bool.{Bool}
 use mathlib.Core.List.{List}
 use borrow.Author.Tests.{le-leb, lt-leb}
-use lib.ListN.{length, take}
+use lib.ListN.{length, replicate, take, length-replicate}
 use lib.Seq.{sets, length-take-le}
 use Rattle.terms.specs.Answer.{Answer, figures, refused, weigh}
 use Rattle.encoding.specs.FillLaws.{Fills, fill-refused, fill-stored}
@@ -22,6 +22,13 @@ module _ (ready old : List ℕ) where
   stored-ready h new e =
       let f : fitted (length old) ready ≡ figures ready = ap (λ (b : Bool). weigh b 6 (figures ready)) (le-leb (length ready) (length old) h) in
       fill-stored (fitted (length old) ready) old ready new (length ready) f refl h e
+
+-- An array of zeros has its length.
+abbrev pub zeros : ℕ → List ℕ
+zeros n = replicate n 0
+
+pub long : (n : ℕ) → length (zeros n) ≡ n
+long n = length-replicate {0} {A = ℕ} n 0
 
 -- What was put at the front of an array is the text that stands ready.
 module _ (array xs : List ℕ) (room : length xs ≤ length array) (put : List ℕ) (n : ℕ) (p : Puts array 0 xs put n) where

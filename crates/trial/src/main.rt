@@ -8,7 +8,7 @@ use console::read_all;
 use libc::STDERR_FILENO;
 use order_text::NumberAnswer;
 use order_text::number_of;
-use sheets::trial_line;
+use services::trial_line;
 use terms::Bucket;
 use terms::Depth;
 use terms::Rate;

@@ -3,8 +3,9 @@ use native.Mathlib.Omega.{arith}
 use mathlib.Core.Path.{sym, ap}
 use lib.Seq.{length-take-le}
 use Rattle.order_file.specs.Order.{orderSays}
+use Rattle.order_file.specs.OrderedLaws.{demands-inside}
 use Rattle.planning.specs.Planning.{RecordLists, lists}
-use Rattle.planning.specs.CallLaws.{demands-inside, planning-refused, series-planned}
+use Rattle.planning.specs.CallLaws.{planning-refused, series-planned}
 use borrow.Author.Needs.{needs}
 use Rattle.planning.proofs.orders.plan_order.Statement.{statement}
 use Rattle.planning.proofs.orders.plan_order.Tie as tie

@@ -7,9 +7,9 @@ use Rattle.terms.specs.Answer.{Answer, andThen}
 use Rattle.terms.specs.Limits.{traceLimit}
 use Rattle.bucket.specs.Trial.{trialOf}
 use Rattle.single.specs.Single.{singleOf}
+use Rattle.order_file.specs.Ordered.{ordered}
 use Rattle.text.specs.Lines.{trialLine, singleLine}
 use Rattle.text.specs.Fitted.{fitted}
-use Rattle.planning.specs.Planning.{ordered}
 
 -- The trial of a bucket on an order's demands, with the order's factor, in `room` bytes: 1 to 5 as reading gives it, 5 for the
 -- bucket, then 6.

@@ -1,40 +1,36 @@
 -- Each return is a case of the definition; the array holds the longest line, and its front is the line.
 use Prim.Native.Nat.{_≤_}
 use native.Mathlib.Omega.{arith}
-use mathlib.Core.Path.{sym, ap, _∙_}
-use lib.ListN.{length}
+use mathlib.Core.Path.{_≡_, sym, ap, _∙_}
+use lib.ListN.{length, take}
 use lib.Seq.{length-take-le}
-use lib.Signed.{natAbs-le}
-use mir.Syntax.{w64}
-use mir.Val.{SFits}
-use mir.Facts.{toZ-ofZ}
-use Rattle.bucket.specs.declared.trials.TrialFigures.{TrialFigures}
-use Rattle.bucket.specs.Trial.{trialSays}
+use Rattle.terms.specs.Answer.{figures}
 use Rattle.order_file.specs.Order.{orderSays}
-use Rattle.text.specs.FittedLaws.{ready-count, ready-inside, ready-fills}
-use Rattle.text.specs.Lines.{trialLine}
-use Rattle.text.specs.LineLaws.{trial-short}
-use Rattle.planning.specs.CallLaws.{demands-inside}
-use Rattle.sheets.specs.ServiceLaws.{long, zeros, refused-fills, found-fills, order-unfilled, order-filled}
+use Rattle.order_file.specs.OrderedLaws.{demands-inside, order-range}
+use Rattle.single.specs.Single.{singleOf, singleSays}
+use Rattle.text.specs.FittedLaws.{long, zeros, ready-count, ready-inside, ready-fills}
+use Rattle.text.specs.Lines.{singleLine}
+use Rattle.services.specs.ServiceLaws.{refused-fills, found-fills, order-unfilled, order-filled, priced-short}
 use borrow.Author.Needs.{needs}
-use Rattle.sheets.proofs.services.trial_line.Statement.{statement}
-use Rattle.sheets.proofs.services.trial_line.Tie as tie
+use Rattle.services.proofs.lines.single_line.Statement.{statement}
+use Rattle.services.proofs.lines.single_line.Tie as tie
 
 abbrev spread-at : tie.After-x → tie.After-spread-order
 spread-at x = x .before .before .before
 
-abbrev order-at : tie.After-trial → tie.After-x
+abbrev order-at : tie.After-single → tie.After-x
 order-at t = t .before .before .before .before .before
 
--- the figures found
-abbrev figures-at : tie.After-struct-told → TrialFigures
-figures-at c = c .before .before .before .x2 .given .0 .0
+-- the single answer for the demands spread
+found : (y : tie.After-x2) → let x = order-at (y .before .before) in let o = x .x .given .0 .0 in
+    singleOf (o .tariff) (take (o .periods) (spread-at x .spread-order .last .1 .0)) ≡ figures (y .x2 .given .0 .0)
+found y = sym (y .before .before .single .ensures) ∙ ap singleSays (y .x2 .given .1)
 
-spare-fits : (c : tie.After-struct-told) → SFits w64 (figures-at c .spare)
-spare-fits c = record { sfits = c .struct-told .given .0 .1 }
-
-room : (c : tie.After-struct-told) → length (trialLine (figures-at c .spare) (figures-at c .over)) ≤ length (zeros 40)
-room c = omega (arith, trial-short (figures-at c .spare) (figures-at c .over) (natAbs-le (figures-at c .spare) (c .struct-told .given .0 .1)) (c .struct-told .given .1 .0 .1))
+room : (y : tie.After-x2) → length (singleLine (y .x2 .given .0 .0 .bucket) (y .x2 .given .0 .0 .cost)) ≤ length (zeros 37)
+room y =
+    let x = order-at (y .before .before) in
+    let r = order-range _ _ _ _ (spread-at x .spread-order .ensures) _ (ap orderSays (x .x .given .1)) in
+    omega (arith, priced-short _ _ _ (r .1) (r .0 .few) (found y))
 
 slice-aggregate-spread-order : tie.Need-slice-aggregate-spread-order
 slice-aggregate-spread-order c = search needs
@@ -61,13 +57,13 @@ array-share-prefix-demands c =
     let x = c .before .before .before in
     omega (arith, demands-inside _ _ _ _ (spread-at x .spread-order .ensures) _ (ap orderSays (x .x .given .1)))
 
-slice-aggregate-trial : tie.Need-slice-aggregate-trial
-slice-aggregate-trial c =
+slice-aggregate-single : tie.Need-slice-aggregate-single
+slice-aggregate-single c =
     let x = c .before .before .before .before in
     sym (length-take-le _ _ (omega (arith, demands-inside _ _ _ _ (spread-at x .spread-order .ensures) _ (ap orderSays (x .x .given .1)))))
 
-trial-requires : tie.Need-trial-requires
-trial-requires c κs = search needs
+single-requires : tie.Need-single-requires
+single-requires c κs = search needs
 
 enum-known-x-2 : tie.Need-enum-known-x-2
 enum-known-x-2 c = search needs
@@ -81,23 +77,23 @@ returns-2 c =
     let x = order-at t in
     let old = spread-at x .before .before .before .before .args .text .now in
     order-filled _ _ _ _ (spread-at x .spread-order .ensures) (long 512) _ old _ (ap orderSays (x .x .given .1)) _ _
-    (refused-fills _ _ old _ (sym (t .trial .ensures) ∙ ap trialSays (c .before .why2 .given .1)))
+    (refused-fills _ _ old _ (sym (t .single .ensures) ∙ ap singleSays (c .before .why2 .given .1)))
 
-slice-aggregate-put-trial-line : tie.Need-slice-aggregate-put-trial-line
-slice-aggregate-put-trial-line c = search needs
+slice-aggregate-put-single-line : tie.Need-slice-aggregate-put-single-line
+slice-aggregate-put-single-line c = search needs
 
-put-trial-line-requires : tie.Need-put-trial-line-requires
-put-trial-line-requires c κs = rw (toZ-ofZ {w = w64} (spare-fits c)) (omega (arith, room c))
+put-single-line-requires : tie.Need-put-single-line-requires
+put-single-line-requires c κs = omega (arith, room (c .before .before))
 
 array-share-prefix-ready : tie.Need-array-share-prefix-ready
 array-share-prefix-ready c =
     let p = c .before in
-    ready-inside (zeros 40) _ (room (p .before)) _ _ (rw (toZ-ofZ {w = w64} (spare-fits (p .before))) at (p .put-trial-line .ensures))
+    ready-inside (zeros 37) _ (room (p .before .before .before)) _ _ (p .put-single-line .ensures)
 
 slice-aggregate-fill : tie.Need-slice-aggregate-fill
 slice-aggregate-fill c =
     let p = c .before .before in
-    ready-count (zeros 40) _ (room (p .before)) _ _ (rw (toZ-ofZ {w = w64} (spare-fits (p .before))) at (p .put-trial-line .ensures))
+    ready-count (zeros 37) _ (room (p .before .before .before)) _ _ (p .put-single-line .ensures)
 
 fill-requires : tie.Need-fill-requires
 fill-requires c κs = search needs
@@ -108,16 +104,14 @@ same-length c = search needs
 returns-3 : tie.Need-returns-3
 returns-3 c =
     let p = c .before .before .before .before .before .before in
-    let y = p .before .before .before .before in
-    let t = y .before .before in
-    let x = order-at t in
+    let y = p .before .before .before in
+    let x = order-at (y .before .before) in
     let old = spread-at x .before .before .before .before .args .text .now in
     order-filled _ _ _ _ (spread-at x .spread-order .ensures) (long 512) _ old _ (ap orderSays (x .x .given .1)) _ _
-    (found-fills _ _ old _ (sym (t .trial .ensures) ∙ ap trialSays (y .x2 .given .1)) _ _
-    (ready-fills (zeros 40) _ (room (p .before)) _ _ (rw (toZ-ofZ {w = w64} (spare-fits (p .before))) at (p .put-trial-line .ensures)) old _ _ (c .before .before .fill .ensures)))
+    (found-fills _ _ old _ (found y) _ _ (ready-fills (zeros 37) _ (room y) _ _ (p .put-single-line .ensures) old _ _ (c .before .before .fill .ensures)))
 
-pub trial-line-spec : {M : Type 1} → statement M
-trial-line-spec =
+pub single-line-spec : {M : Type 1} → statement M
+single-line-spec =
     tie.close
     (tie.spec
     slice-aggregate-spread-order
@@ -127,13 +121,13 @@ trial-line-spec =
     returns
     cast-demands
     array-share-prefix-demands
-    slice-aggregate-trial
-    trial-requires
+    slice-aggregate-single
+    single-requires
     enum-known-x-2
     enum-known-why-2
     returns-2
-    slice-aggregate-put-trial-line
-    put-trial-line-requires
+    slice-aggregate-put-single-line
+    put-single-line-requires
     array-share-prefix-ready
     slice-aggregate-fill
     fill-requires

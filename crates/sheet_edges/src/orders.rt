@@ -38,13 +38,13 @@ pub fn sheet_in(order: &[u8], room: usize) {
 
 fn single_in(order: &[u8], room: usize) {
     let mut text = [LENT; LENT_BYTES];
-    let answer = sheets::single_line(order, lent_front(&mut text, room));
+    let answer = services::single_line(order, lent_front(&mut text, room));
     print(answer, &text);
 }
 
 fn trial_in(order: &[u8], bucket: Bucket, room: usize) {
     let mut text = [LENT; LENT_BYTES];
-    let answer = sheets::trial_line(order, bucket, lent_front(&mut text, room));
+    let answer = services::trial_line(order, bucket, lent_front(&mut text, room));
     print(answer, &text);
 }
 

@@ -3,12 +3,11 @@ use mathlib.Core.Path.{_≡_, sym, ap}
 use native.Mathlib.Nat.{le-of-eq}
 use Rattle.terms.specs.Lent.{roomOf}
 use Rattle.planning.specs.Planning.{plannedSays}
-use Rattle.text.specs.FittedLaws.{ready-count, ready-inside, ready-fills}
-use Rattle.sheets.specs.ServiceLaws.{long, zeros}
+use Rattle.text.specs.FittedLaws.{long, zeros, ready-count, ready-inside, ready-fills}
 use Rattle.sheets.specs.SheetLaws.{plan-refused, same-room-of, shown, sheet-filled, sheet-room}
 use borrow.Author.Needs.{needs}
-use Rattle.sheets.proofs.services.sheet.Statement.{statement}
-use Rattle.sheets.proofs.services.sheet.Tie as tie
+use Rattle.sheets.proofs.printed.sheet.Statement.{statement}
+use Rattle.sheets.proofs.printed.sheet.Tie as tie
 
 lists-long : roomOf (zeros 512) (zeros 512) (zeros 512) ≡ 512
 lists-long = same-room-of (zeros 512) (zeros 512) (zeros 512) 512 (long 512) (long 512) (long 512)

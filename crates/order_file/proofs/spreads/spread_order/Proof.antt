@@ -2,11 +2,11 @@
 use mathlib.Core.Path.{_≡_, sym, ap, _∙_}
 use Rattle.terms.specs.Answer.{figures}
 use Rattle.encoding.specs.Fill.{fillSays}
 use Rattle.order_file.specs.Order.{orderSays, readOrder}
-use Rattle.planning.specs.CallLaws.{order-refused, spread-found, spread-refused}
+use Rattle.order_file.specs.OrderedLaws.{order-refused, spread-found, spread-refused}
 use borrow.Author.Needs.{needs}
-use Rattle.planning.proofs.orders.spread_order.Statement.{statement}
-use Rattle.planning.proofs.orders.spread_order.Tie as tie
+use Rattle.order_file.proofs.spreads.spread_order.Statement.{statement}
+use Rattle.order_file.proofs.spreads.spread_order.Tie as tie
 
 abbrev order-at : tie.After-spread → tie.After-x
 order-at w = w .before .before .before .before

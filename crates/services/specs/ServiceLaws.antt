@@ -5,7 +5,7 @@ use native.Mathlib.Omega.{arith}
 use native.Mathlib.Nat.{le-trans}
 use mathlib.Core.Path.{_≡_, sym, ap, ap₂, subst, _∙_}
 use mathlib.Core.List.{List}
-use lib.ListN.{length, replicate, take, length-replicate}
+use lib.ListN.{length, take}
 use Rattle.terms.specs.declared.Tariff.{Tariff}
 use Rattle.terms.specs.Answer.{Answer, figures, refused, andThen}
 use Rattle.terms.specs.AnswerLaws.{on-refused, then-figures, then-refused}
@@ -17,17 +17,10 @@ use Rattle.single.specs.Single.{singleOf}
 use Rattle.single.specs.SingleLaws.{single-cheapest}
 use Rattle.encoding.specs.FillLaws.{Fills, fill-refused}
 use Rattle.order_file.specs.declared.orders.Order.{Order}
+use Rattle.order_file.specs.Ordered.{Ordered, ordered, SpreadsOrder}
+use Rattle.order_file.specs.OrderedLaws.{found-order, demands-are}
 use Rattle.text.specs.Lines.{singleLine}
 use Rattle.text.specs.LineLaws.{single-short}
-use Rattle.planning.specs.Planning.{Ordered, ordered, SpreadsOrder}
-use Rattle.planning.specs.CallLaws.{found-order, demands-are}
-
--- An array of zeros has its length.
-abbrev pub zeros : ℕ → List ℕ
-zeros n = replicate n 0
-
-pub long : (n : ℕ) → length (zeros n) ≡ n
-long n = length-replicate {0} {A = ℕ} n 0
 
 module _ {A : Type 0} (a : Answer A) (next : A → Answer (List ℕ)) (old : List ℕ) where
   pub refused-fills : (n : ℕ) → a ≡ refused n → Fills (andThen a next) old (refused n) old
