@@ -9,8 +9,8 @@ use Rattle.terms.specs.Answer.{Answer, figures, refused, weigh, onFigures, andT
 use Rattle.terms.specs.Lent.{filled, recorded}
 use Rattle.terms.specs.Records.{Cutting, runLength, total}
 use Rattle.terms.specs.Refusals.{numberOf}
-use Rattle.bucket.specs.declared.meters.Meter.{Meter}
-use Rattle.bucket.specs.Meter.{meterRun}
+use Rattle.meter.specs.declared.meters.Meter.{Meter}
+use Rattle.meter.specs.Meter.{meterRun}
 use Rattle.series.specs.Series.{trueCost}
 use Rattle.plan_file.specs.declared.plans.PlanFigures.{PlanFigures}
 use Rattle.plan_file.specs.Plan.{Recorded, readPlan, writePlan}

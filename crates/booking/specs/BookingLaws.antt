@@ -13,12 +13,12 @@ use Rattle.terms.specs.Answer.{figures}
 use Rattle.terms.specs.Limits.{demandLimit, traceLimit, costLimit}
 use Rattle.terms.specs.RangeLaws.{TariffRange, PeriodsRange, RecordRange, FreshRange}
 use Rattle.terms.specs.Records.{Cutting, Each}
-use Rattle.bucket.specs.declared.meters.Meter.{Meter}
 use Rattle.bucket.specs.Laws.{carried-over, demands-take, demands-drop}
-use Rattle.bucket.specs.Meter.{meterOn}
-use Rattle.bucket.specs.MeterRuns.{run-metered}
 use Rattle.bucket.specs.Step.{startOf}
 use Rattle.bucket.specs.Trace.{Demands}
+use Rattle.meter.specs.declared.meters.Meter.{Meter}
+use Rattle.meter.specs.Meter.{meterOn}
+use Rattle.meter.specs.MeterRuns.{run-metered}
 use Rattle.series.specs.Cutting.{none, run}
 use Rattle.series.specs.Series.{Carried, trueCost}
 use Rattle.series.specs.OutlineLaws.{carried-count, carried-cost}

@@ -13,7 +13,7 @@ use Rattle.terms.specs.Answer.{Answer, figures, refused, weigh, onFigures, andT
 use Rattle.terms.specs.AnswerLaws.{figures-refused, same-figures, on-refused, then-figures, then-refused}
 use Rattle.terms.specs.Lent.{filled, roomOf}
 use Rattle.terms.specs.Records.{Cutting, runLength, total}
-use Rattle.bucket.specs.declared.meters.Meter.{Meter}
+use Rattle.meter.specs.declared.meters.Meter.{Meter}
 use Rattle.series.specs.Series as series
 use Rattle.order_file.specs.Ordered.{spreadFrom}
 use Rattle.plan_file.specs.declared.plans.PlanFigures.{PlanFigures}

@@ -13,9 +13,9 @@ use Rattle.terms.specs.Answer.{Answer, figures, refused, onFigures, andThen}
 use Rattle.terms.specs.Limits.{totalLimit}
 use Rattle.terms.specs.Records.{Cutting, runLength, total}
 use Rattle.terms.specs.Refusals.{numberOf}
-use Rattle.bucket.specs.declared.meters.Meter.{Meter}
-use Rattle.bucket.specs.Meter.{meterRun}
-use Rattle.bucket.specs.MeterLaws.{Sound}
+use Rattle.meter.specs.declared.meters.Meter.{Meter}
+use Rattle.meter.specs.Meter.{meterRun}
+use Rattle.meter.specs.MeterLaws.{Sound}
 use Rattle.encoding.specs.Number.{itemsAt}
 use Rattle.encoding.specs.StoreLaws.{items-next, items-none}
 use Rattle.plan_file.specs.Plan.{listed, recordsOf}

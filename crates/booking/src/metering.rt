@@ -1,8 +1,8 @@
 // The meters of a recorded plan, run by run. Public only for this crate's calls, which show what is
 // required.
-use bucket::Meter;
-use bucket::MeterAnswer;
-use bucket::meter_run;
+use meter::Meter;
+use meter::MeterAnswer;
+use meter::meter_run;
 use terms::Bucket;
 use terms::Depth;
 use terms::Factor;
@@ -15,7 +15,7 @@ ghost use Rattle.terms.specs.Answer.{onFigures};
 ghost use Rattle.terms.specs.Lent.{roomOf};
 ghost use Rattle.terms.specs.Limits.{traceLimit};
 ghost use Rattle.terms.specs.Records.{runLength, total};
-ghost use Rattle.bucket.specs.MeterLaws.{Sound};
+ghost use Rattle.meter.specs.MeterLaws.{Sound};
 ghost use Rattle.plan_file.specs.Plan.{recordsOf};
 ghost use Rattle.plan_file.specs.PlanRules.{CountsRange};
 ghost use Rattle.booking.specs.Booking.{metersOf, totalsOf};

@@ -1,6 +1,6 @@
 // What a booking recorded: its file read again, and the meter of each run.
-use bucket::MeterAnswer;
-use bucket::meter_run;
+use meter::MeterAnswer;
+use meter::meter_run;
 use order_file::OrderAnswer;
 use order_file::read_order;
 use plan_file::read_plan;

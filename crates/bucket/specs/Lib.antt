@@ -2,8 +2,5 @@
 pub mod Step
 pub mod Trace
 pub mod Trial
-pub mod Meter
 pub mod Least
 pub mod Laws
-pub mod MeterLaws
-pub mod MeterRuns

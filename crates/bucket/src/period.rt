@@ -1,5 +1,5 @@
-// One period of a bucket, and the tokens it starts with. Public only for this crate's own modules,
-// which show what each function requires.
+// One period of a bucket, and the tokens it starts with. Public only for this crate's trial and the
+// crate above, which show what each function requires.
 use terms::Bucket;
 use terms::Factor;
 use terms::numbers::lesser;

@@ -1,9 +1,9 @@
 // Meter records that break each rule of refusal 8, records at the last period, and a meter that is
 // offered periods until it is full.
 use crate::bucket_of;
-use bucket::Meter;
-use bucket::MeterAnswer;
-use bucket::OfferAnswer;
+use meter::Meter;
+use meter::MeterAnswer;
+use meter::OfferAnswer;
 use terms::Factor;
 
 pub fn edges() {
@@ -26,7 +26,7 @@ fn opening(edge: &[u8], rate: u32, depth: u32, p: u32, q: u32) {
     report::words(b"open ");
     report::words(edge);
     report::words(b":");
-    answer(bucket::open_meter(bucket_of(rate, depth), Factor { p, q }));
+    answer(meter::open_meter(bucket_of(rate, depth), Factor { p, q }));
 }
 
 // A meter's record, or the refusal, to the end of the line.
@@ -150,7 +150,7 @@ fn offering(edge: &[u8], m: Meter, demand: u16) {
     report::words(b" to ");
     report::words(edge);
     report::words(b":");
-    let o = bucket::offer(m, demand);
+    let o = meter::offer(m, demand);
     let next = o.meter;
     let answer = o.answer;
     match answer {
@@ -203,7 +203,7 @@ fn until_full() {
 fn after_offers(m: Meter, demand: u16, times: u32) -> Meter {
     let mut m = m;
     for _ in 0..times {
-        m = bucket::offer(m, demand).meter;
+        m = meter::offer(m, demand).meter;
     }
     m
 }

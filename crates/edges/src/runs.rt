@@ -19,7 +19,7 @@ fn run(edge: &[u8], rate: u32, depth: u32, demands: &[u16]) {
     report::words(edge);
     report::words(b":");
     let factor = Factor { p: 1, q: 2 };
-    answer(bucket::meter_run(bucket_of(rate, depth), factor, demands));
+    answer(meter::meter_run(bucket_of(rate, depth), factor, demands));
 }
 
 // As many demands as a meter takes, and one more.

@@ -1,8 +1,8 @@
 // Every small bucket, factor and trace of three periods: trial and meter against a plain run.
 use crate::bucket_of;
-use bucket::Meter;
-use bucket::MeterAnswer;
 use bucket::TrialAnswer;
+use meter::Meter;
+use meter::MeterAnswer;
 use terms::Factor;
 
 // Rates 0 to 4, depths 0 to 5, factors 0/2 to 2/2 and demands 0 to 6.
@@ -33,7 +33,7 @@ fn agrees(n: u32) -> bool {
     let factor = Factor { p, q: 2 };
     let wanted = plain_over(rate, depth, start(p, depth), trace);
     let tried = tried_over(bucket::trial(bucket, factor, &trace));
-    let metered = metered_over(bucket::open_meter(bucket, factor), trace);
+    let metered = metered_over(meter::open_meter(bucket, factor), trace);
     (tried == wanted) & (metered == wanted)
 }
 
@@ -73,9 +73,9 @@ fn metered_over(a: MeterAnswer, trace: [u16; 3]) -> u64 {
 }
 
 fn offered(m: Meter, trace: [u16; 3]) -> Meter {
-    let first = bucket::offer(m, trace[0]).meter;
-    let second = bucket::offer(first, trace[1]).meter;
-    bucket::offer(second, trace[2]).meter
+    let first = meter::offer(m, trace[0]).meter;
+    let second = meter::offer(first, trace[1]).meter;
+    meter::offer(second, trace[2]).meter
 }
 
 // The tokens after a period, and what it discards.

@@ -10,11 +10,11 @@ use Rattle.terms.specs.declared.Factor.{Factor}
 use Rattle.terms.specs.declared.Tariff.{Tariff}
 use Rattle.terms.specs.Answer.{Answer, figures, refused, onFigures}
 use Rattle.bucket.specs.declared.trials.TrialFigures.{TrialFigures}
-use Rattle.bucket.specs.declared.meters.Meter.{Meter}
 use Rattle.bucket.specs.Step.{startOf}
 use Rattle.bucket.specs.Trace.{sumOf, carriesFrom, gaps, leastOf, spareFrom}
 use Rattle.bucket.specs.Trial.{trialFigures, trialOf}
-use Rattle.bucket.specs.Meter.{meterOk, openOf, offerOf, afterOffers}
+use Rattle.meter.specs.declared.meters.Meter.{Meter}
+use Rattle.meter.specs.Meter.{meterOk, openOf, offerOf, afterOffers}
 use Rattle.depth.specs.Depth.{firstFrom, depthOf}
 use Rattle.single.specs.declared.costs.Priced.{Priced}
 use Rattle.single.specs.Cost.{costOf}

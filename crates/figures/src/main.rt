@@ -1,5 +1,5 @@
 // Prints the lettered figures of document 01 as the calls give them.
-use bucket::MeterAnswer;
+use meter::MeterAnswer;
 use samples::file_bytes::front;
 use samples::tariffs::caps_of;
 use samples::tariffs::from_empty;
@@ -132,7 +132,7 @@ fn row_i() {
 // A meter of rate 5 and depth 4, offered 4, 8, 2 and 9: sent, over, lost, tokens held.
 fn row_j() {
     report::words(b"J");
-    let a = bucket::open_meter(
+    let a = meter::open_meter(
         Bucket {
             rate: Rate(5),
             depth: Depth(4),
@@ -141,10 +141,10 @@ fn row_j() {
     );
     match a {
         MeterAnswer::Opened(m) => {
-            let m = bucket::offer(m, 4).meter;
-            let m = bucket::offer(m, 8).meter;
-            let m = bucket::offer(m, 2).meter;
-            let m = bucket::offer(m, 9).meter;
+            let m = meter::offer(m, 4).meter;
+            let m = meter::offer(m, 8).meter;
+            let m = meter::offer(m, 2).meter;
+            let m = meter::offer(m, 9).meter;
             report::totals(m.sent, m.over, m.lost, m.held as u64);
         }
         MeterAnswer::Refused(x) => report::refusal(x),

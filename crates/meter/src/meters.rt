@@ -1,7 +1,7 @@
 // The meter: a bucket run a period at a time on what is offered, with running totals.
-use crate::period::Period;
-use crate::period::starting_tokens;
-use crate::period::step;
+use bucket::period::Period;
+use bucket::period::starting_tokens;
+use bucket::period::step;
 use terms::Bucket;
 use terms::Factor;
 use terms::Refusal;
@@ -12,8 +12,8 @@ use terms::limits::TOTAL_LIMIT;
 ghost use mathlib.Core.Path.{_≡_};
 ghost use Rattle.terms.specs.RangeLaws.{FreshRange};
 ghost use Rattle.terms.specs.Answer.{figures};
-ghost use Rattle.bucket.specs.Meter.{countsOk, balanced, meterOk, openOf, openSays, recordAfter, Answered};
-ghost use Rattle.bucket.specs.MeterLaws.{CountsRange};
+ghost use Rattle.meter.specs.Meter.{countsOk, balanced, meterOk, openOf, openSays, recordAfter, Answered};
+ghost use Rattle.meter.specs.MeterLaws.{CountsRange};
 
 // A meter's record: the bucket and the factor it was set up with, the tokens it holds, the periods
 // so far, and what was sent, over (discarded) and lost in all of them.

@@ -17,12 +17,12 @@ use Rattle.terms.specs.Limits.{meterLimit}
 use Rattle.terms.specs.Answer.{figures, refused, weigh, andThen}
 use Rattle.terms.specs.AnswerLaws.{same-figures, then-found}
 use Rattle.terms.specs.RangeLaws.{FreshRange, fresh-ok}
-use Rattle.bucket.specs.declared.meters.Meter.{Meter}
 use Rattle.bucket.specs.Step.{startOf, sent, over, held, lost, periodOf}
 use Rattle.bucket.specs.Trace.{Demands, heldAfter, sumOf, sentAll, overAll, lostAll, carries}
 use Rattle.bucket.specs.Laws.{demands-tail, start-le, conservation, carried-over, over-carried}
-use Rattle.bucket.specs.Meter.{offerOf, recordAfter, freshMeter, openOf, afterOffers, accepted, offersOf, meterRun, meterOn}
-use Rattle.bucket.specs.MeterLaws.{Sound, open-fresh, sound-meter, offer-full, offer-taken, taken-sound, sound-never-8}
+use Rattle.meter.specs.declared.meters.Meter.{Meter}
+use Rattle.meter.specs.Meter.{offerOf, recordAfter, freshMeter, openOf, afterOffers, accepted, offersOf, meterRun, meterOn}
+use Rattle.meter.specs.MeterLaws.{Sound, open-fresh, sound-meter, offer-full, offer-taken, taken-sound, sound-never-8}
 
 -- The record m once the demands ds have all been accepted: each figure is that of the definitions, on top of what it was.
 abbrev pub advanced : Meter → List ℕ → Meter

@@ -7,7 +7,7 @@ use crate::meters::open_meter;
 use terms::Bucket;
 use terms::Factor;
 ghost use mathlib.Core.Path.{_≡_};
-ghost use Rattle.bucket.specs.Meter.{meterRun, offersOf, openSays};
+ghost use Rattle.meter.specs.Meter.{meterRun, offersOf, openSays};
 
 // The record that a meter ends with which is opened on the bucket and offered the demands, first to
 // last; or refusal 5, or 9 for more demands than a meter takes.

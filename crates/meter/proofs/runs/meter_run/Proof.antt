@@ -1,11 +1,11 @@
 -- A refusal to open is the answer; an opened meter is offered the demands.
 use mathlib.Core.Path.{sym, ap, _∙_}
 use Rattle.terms.specs.AnswerLaws.{then-figures, then-refused}
-use Rattle.bucket.specs.Meter.{openSays}
+use Rattle.meter.specs.Meter.{openSays}
 use borrow.Author.Needs.{needs}
 use borrow.Author.Needs.{needs}
-use Rattle.bucket.proofs.runs.meter_run.Statement.{statement}
-use Rattle.bucket.proofs.runs.meter_run.Tie as tie
+use Rattle.meter.proofs.runs.meter_run.Statement.{statement}
+use Rattle.meter.proofs.runs.meter_run.Tie as tie
 
 open-meter-requires : tie.Need-open-meter-requires
 open-meter-requires c κs = search needs

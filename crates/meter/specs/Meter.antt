@@ -12,15 +12,15 @@ use Rattle.terms.specs.Answer.{Answer, figures, refused, weigh, andThen}
 use Rattle.terms.specs.Refusals.{numberOf}
 use Rattle.terms.specs.Limits.{demandLimit, meterLimit, totalLimit}
 use Rattle.terms.specs.Ranges.{freshOk}
 use Rattle.bucket.specs.declared.period.Period.{Period}
-use Rattle.bucket.specs.declared.meters.Meter.{Meter}
-use Rattle.bucket.specs.declared.meters.MeterAnswer.{MeterAnswer}
-use Rattle.bucket.specs.declared.meters.MeterAnswer.the-variants as opening
-use Rattle.bucket.specs.declared.meters.OfferAnswer.{OfferAnswer}
-use Rattle.bucket.specs.declared.meters.OfferAnswer.the-variants as offering
-use Rattle.bucket.specs.declared.meters.Offered.{Offered}
 use Rattle.bucket.specs.Step.{startOf, periodOf}
 use Rattle.bucket.specs.Trace.{heldAfter, sentAll, overAll, lostAll}
+use Rattle.meter.specs.declared.meters.Meter.{Meter}
+use Rattle.meter.specs.declared.meters.MeterAnswer.{MeterAnswer}
+use Rattle.meter.specs.declared.meters.MeterAnswer.the-variants as opening
+use Rattle.meter.specs.declared.meters.OfferAnswer.{OfferAnswer}
+use Rattle.meter.specs.declared.meters.OfferAnswer.the-variants as offering
+use Rattle.meter.specs.declared.meters.Offered.{Offered}
 
 -- Tokens held, periods and totals within their limits.
 abbrev pub countsOk : Meter → Bool

@@ -4,11 +4,11 @@ use mathlib.Core.Bool.{true}
 use borrow.Author.Needs.{needs}
 use Rattle.terms.specs.Ranges.{freshOk}
 use Rattle.terms.specs.RangeLaws.{fresh-range}
-use Rattle.bucket.specs.Meter.{countsOk, meterOk}
-use Rattle.bucket.specs.MeterLaws.{counts-range}
+use Rattle.meter.specs.Meter.{countsOk, meterOk}
+use Rattle.meter.specs.MeterLaws.{counts-range}
 use Rattle.terms.specs.Bools.{check-passed, check-failed}
-use Rattle.bucket.proofs.meters.record_in_order.Statement.{statement}
-use Rattle.bucket.proofs.meters.record_in_order.Tie as tie
+use Rattle.meter.proofs.meters.record_in_order.Statement.{statement}
+use Rattle.meter.proofs.meters.record_in_order.Tie as tie
 
 fresh-in-range-requires : tie.Need-fresh-in-range-requires
 fresh-in-range-requires c κs = search needs

@@ -4,12 +4,12 @@ use native.Mathlib.Omega.{arith}
 use mathlib.Core.Path.{_≡_, ap}
 use mathlib.Core.Bool.{true}
 use borrow.Author.Needs.{needs}
-use Rattle.bucket.specs.declared.meters.Meter.{Meter}
-use Rattle.bucket.specs.Meter.{meterOk}
-use Rattle.bucket.specs.MeterLaws.{meter-sound, offer-broken, offer-full, offer-taken}
+use Rattle.meter.specs.declared.meters.Meter.{Meter}
+use Rattle.meter.specs.Meter.{meterOk}
+use Rattle.meter.specs.MeterLaws.{meter-sound, offer-broken, offer-full, offer-taken}
 use Rattle.terms.specs.Bools.{check-passed, check-failed}
-use Rattle.bucket.proofs.meters.offer.Statement.{statement}
-use Rattle.bucket.proofs.meters.offer.Tie as tie
+use Rattle.meter.proofs.meters.offer.Statement.{statement}
+use Rattle.meter.proofs.meters.offer.Tie as tie
 
 record-in-order-requires : tie.Need-record-in-order-requires
 record-in-order-requires c κs = search needs

@@ -6,13 +6,13 @@ use mathlib.Core.List.{List, _∷_}
 use lib.ListN.{length, drop, getD, drop-of-length-le}
 use lib.Seq.{drop-cons}
 use Rattle.terms.specs.Answer.{Answer, figures, refused, andThen}
 use Rattle.bucket.specs.declared.period.Period.{Period}
-use Rattle.bucket.specs.declared.meters.Meter.{Meter}
-use Rattle.bucket.specs.declared.meters.Offered.{Offered}
-use Rattle.bucket.specs.Meter.{recordAfter, offersOf, offerSays, Answered}
+use Rattle.meter.specs.declared.meters.Meter.{Meter}
+use Rattle.meter.specs.declared.meters.Offered.{Offered}
+use Rattle.meter.specs.Meter.{recordAfter, offersOf, offerSays, Answered}
 use borrow.Author.Needs.{needs}
-use Rattle.bucket.proofs.runs.offer_each.Statement.{statement}
-use Rattle.bucket.proofs.runs.offer_each.Tie as tie
+use Rattle.meter.proofs.runs.offer_each.Statement.{statement}
+use Rattle.meter.proofs.runs.offer_each.Tie as tie
 
 module _ (m : Meter) (ds : List ℕ) (i : ℕ) (whole : Answer Meter) (e : offersOf m (drop i ds) ≡ whole) where
   module _ (l : i < length ds) (r : Offered) (k : Answered m (getD ds i 0) r) where

@@ -5,8 +5,8 @@ use borrow.Author.Needs.{needs}
 use Rattle.terms.specs.Ranges.{freshOk}
 use Rattle.terms.specs.RangeLaws.{fresh-range}
 use Rattle.terms.specs.Bools.{check-passed, check-failed}
-use Rattle.bucket.proofs.meters.open_meter.Statement.{statement}
-use Rattle.bucket.proofs.meters.open_meter.Tie as tie
+use Rattle.meter.proofs.meters.open_meter.Statement.{statement}
+use Rattle.meter.proofs.meters.open_meter.Tie as tie
 
 fresh-in-range-requires : tie.Need-fresh-in-range-requires
 fresh-in-range-requires c κs = search needs

@@ -4,8 +4,8 @@ use native.Mathlib.Omega.{arith}
 use native.Mathlib.Nat.{mul-le-mul}
 use borrow.Author.Needs.{needs}
 use Rattle.terms.specs.Limits.{rateLimit, meterLimit}
-use Rattle.bucket.proofs.meters.balances.Statement.{statement}
-use Rattle.bucket.proofs.meters.balances.Tie as tie
+use Rattle.meter.proofs.meters.balances.Statement.{statement}
+use Rattle.meter.proofs.meters.balances.Tie as tie
 
 starting-tokens-requires : tie.Need-starting-tokens-requires
 starting-tokens-requires c κs = search needs

@@ -15,10 +15,10 @@ use Rattle.terms.specs.AnswerLaws.{figures-refused, same-figures, same-refusal}
 use Rattle.terms.specs.Bools.{and-three, and-six, both-and}
 use Rattle.terms.specs.Ranges.{freshOk}
 use Rattle.terms.specs.RangeLaws.{FreshRange, fresh-range, fresh-ok}
-use Rattle.bucket.specs.declared.meters.Meter.{Meter}
 use Rattle.bucket.specs.Step.{startOf, sent, over, held, lost, periodOf}
 use Rattle.bucket.specs.Laws.{start-le}
-use Rattle.bucket.specs.Meter.{countsOk, balanced, meterOk, freshMeter, openOf, offerOf, recordAfter}
+use Rattle.meter.specs.declared.meters.Meter.{Meter}
+use Rattle.meter.specs.Meter.{countsOk, balanced, meterOk, freshMeter, openOf, offerOf, recordAfter}
 
 pub record CountsRange (m : Meter) : Type 0 where
   pub holds : m .held ≤ m .bucket .depth .0
