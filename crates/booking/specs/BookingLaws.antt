@@ -34,7 +34,7 @@ use Rattle.plan_file.specs.PlanRules.{CountsRange}
 use Rattle.plan_file.specs.RecordLaws.{RecordsRange, noRecord}
 use Rattle.planning.specs.Planning.{Planned}
 use Rattle.planning.specs.PlannedLaws.{IsPlanned, planned-cheapest, carried-sum, carried-some, served-range}
-use Rattle.booking.specs.Booking.{metersOf}
+use Rattle.recording.specs.Recording.{metersOf}
 use Rattle.booking.specs.Claim.{periodsIn, demandsAt, SeriesAnswer}
 
 -- ---- The demands in the file

@@ -7,6 +7,7 @@ use mathlib.Core.List.{List}
 use lib.ListN.{length, take}
 use Rattle.terms.specs.declared.BucketRecord.{BucketRecord}
 use Rattle.terms.specs.Answer.{Answer, figures, refused, onFigures}
+use Rattle.terms.specs.Lent.{roomIn}
 use Rattle.terms.specs.Records.{Cutting, runRate, runDepth, Each}
 use Rattle.series.specs.Series.{Carried, trueCost}
 use Rattle.series.specs.SeriesLaws.{Cheapest}
@@ -15,9 +16,9 @@ use Rattle.order_file.specs.declared.orders.Order.{Order}
 use Rattle.order_file.specs.Order.{traceOffset, tariffIn, readOrder}
 use Rattle.order_file.specs.OrderRules.{OrderRules, orderIn}
 use Rattle.plan_file.specs.Plan.{planIn, planLength, recordsOf}
-use Rattle.booking.specs.declared.calls.Booking.{Booking}
-use Rattle.planning.specs.Planning.{roomIn}
-use Rattle.booking.specs.Booking.{Lent, Steps, metersOf, booked, answerOf, lentAfter}
+use Rattle.recording.specs.declared.plans.Booking.{Booking}
+use Rattle.recording.specs.Recording.{metersOf}
+use Rattle.booking.specs.Booking.{Lent, Steps, booked, answerOf, lentAfter}
 
 -- ---- What the sentences speak of, in the bytes of an order file
 

@@ -11,6 +11,7 @@ use lib.ListN.{length, take}
 use Rattle.terms.specs.declared.Tariff.{Tariff}
 use Rattle.terms.specs.Answer.{Answer, figures, refused, onFigures, andThen}
 use Rattle.terms.specs.AnswerLaws.{figures-refused, on-figures, on-refused, weigh-figures, then-figures, then-refused, then-found}
+use Rattle.terms.specs.Lent.{RecordLists, lists, roomIn}
 use Rattle.terms.specs.LentLaws.{filled-front}
 use Rattle.terms.specs.RangeLaws.{PeriodsRange, periods-ok, tariff-ok}
 use Rattle.terms.specs.Records.{Cutting, Each}
@@ -26,9 +27,9 @@ use Rattle.order_file.specs.Ordered.{Ordered, ordered}
 use Rattle.order_file.specs.OrderedLaws.{found-ordered}
 use Rattle.plan_file.specs.Plan.{Recorded, fitting, planIn, recordsOf}
 use Rattle.plan_file.specs.PlanLaws.{lists-hold}
-use Rattle.booking.specs.declared.calls.Booking.{Booking}
-use Rattle.planning.specs.Planning.{RecordLists, Planned, lists, roomIn, plannedRuns}
+use Rattle.planning.specs.Planning.{Planned, plannedRuns}
 use Rattle.planning.specs.PlannedLaws.{IsPlanned, is-planned}
+use Rattle.recording.specs.declared.plans.Booking.{Booking}
 use Rattle.booking.specs.Booking.{Lent, Steps, lent, plannedFor, booked, answerOf, lentAfter}
 use Rattle.booking.specs.BookingLaws.{order-demands, planned-series}
 use Rattle.booking.specs.Claim.{periodsIn, demandsAt, CarriedIn, SeriesAnswer, LongEnough, InsideCaps, Kept, Demand3, Claim}

@@ -2,7 +2,6 @@
 pub mod Booking
 pub mod Claim
 pub mod FrontLaws
-pub mod MeteringLaws
 pub mod BookingLaws
 pub mod CallLaws
 pub mod StepLaws

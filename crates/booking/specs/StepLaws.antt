@@ -14,8 +14,8 @@ use Rattle.terms.specs.declared.Tariff.{Tariff}
 use Rattle.terms.specs.Answer.{Answer, figures, refused, weigh, onFigures, andThen}
 use Rattle.terms.specs.AnswerLaws.{figures-refused, weigh-figures, on-figures, then-figures, then-refused, then-found}
 use Rattle.terms.specs.Limits.{traceLimit}
-use Rattle.terms.specs.Lent.{filled, recorded}
-use Rattle.terms.specs.LentLaws.{rooms}
+use Rattle.terms.specs.Lent.{RecordLists, lists, filled, recorded, roomIn, withRecords}
+use Rattle.terms.specs.LentLaws.{room-kept, rooms}
 use Rattle.terms.specs.Records.{Cutting, runLength, runRate, runDepth}
 use Rattle.bucket.specs.Trace.{Demands}
 use Rattle.series.specs.Series.{trueCost}
@@ -33,11 +33,11 @@ use Rattle.plan_file.specs.Plan.{Recorded, countsOk, planLength, planBytes, rea
 use Rattle.plan_file.specs.PlanLaws.{write-read, lists-hold}
 use Rattle.plan_file.specs.PlanRules.{counts-ok, write-figures}
 use Rattle.plan_file.specs.RecordLaws.{RecordsRange, records-ok}
-use Rattle.booking.specs.declared.calls.Booking.{Booking}
-use Rattle.planning.specs.Planning.{RecordLists, Planned, lists, roomIn, withRecords, cuttingOf}
+use Rattle.planning.specs.Planning.{Planned, cuttingOf}
 use Rattle.planning.specs.PlannedLaws.{IsPlanned, is-planned, planned-cheapest}
-use Rattle.planning.specs.CallLaws.{room-kept}
-use Rattle.booking.specs.Booking.{Lent, Recording, Steps, lent, plannedFor, planFigures, readBack, metersOf, recordingFor, booked, lentAfter}
+use Rattle.recording.specs.declared.plans.Booking.{Booking}
+use Rattle.recording.specs.Recording.{Recording, readBack, metersOf}
+use Rattle.booking.specs.Booking.{Lent, Steps, lent, plannedFor, planFigures, recordingFor, booked, lentAfter}
 use Rattle.booking.specs.BookingLaws.{PlanRange, NothingOver, carried-plan, carried-meters, file-demands, planned-demands}
 use Rattle.booking.specs.CallLaws.{Called, writtenFor, readFor}
 use Rattle.booking.specs.FrontLaws.{Front, FrontOnly, frontLength, filled-front-only, put-back, restored}

@@ -1,12 +1,13 @@
 // The call that planners use: from an order file to a recorded plan.
-use crate::calls::BookingAnswer;
 use crate::calls::make_calls;
 use crate::fronts::keep;
 use crate::fronts::keep_demands;
 use crate::fronts::put_back;
 use crate::fronts::put_back_demands;
-ghost use Rattle.planning.specs.Planning.{lists};
-ghost use Rattle.booking.specs.Booking.{bookingSays, lent};
+use recording::BookingAnswer;
+ghost use Rattle.terms.specs.Lent.{lists};
+ghost use Rattle.recording.specs.Recording.{bookingSays};
+ghost use Rattle.booking.specs.Booking.{lent};
 ghost use Rattle.booking.specs.Claim.{Claim};
 
 // Books an order: reads it, spreads its trace into the demands, plans the series into the runs,

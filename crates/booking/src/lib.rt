@@ -3,9 +3,8 @@
 mod bookings;
 mod calls;
 mod fronts;
-mod metering;
 
 pub use bookings::book;
-pub use calls::Booking;
-pub use calls::BookingAnswer;
-pub use metering::MeterTotals;
+pub use recording::Booking;
+pub use recording::BookingAnswer;
+pub use recording::MeterTotals;

@@ -3,14 +3,13 @@
 use Prim.Native.Nat.{ℕ, _≤_}
 use native.Mathlib.Omega.{arith}
 use mathlib.Core.Path.{_≡_, refl, sym, ap, ap₂, _∙_}
-use mathlib.Core.List.{List, map}
-use lib.ListN.{length, take, length-append, length-drop, length-map, length-take}
-use Rattle.terms.specs.declared.BucketRecord.{BucketRecord}
+use mathlib.Core.List.{List}
+use lib.ListN.{length, take, length-take}
 use Rattle.terms.specs.Answer.{Answer, figures, refused, onFigures}
 use Rattle.terms.specs.AnswerLaws.{on-figures, on-refused, then-figures, then-refused}
-use Rattle.terms.specs.Lent.{filled, recorded}
-use Rattle.terms.specs.LentLaws.{Lists, rooms, filled-front}
-use Rattle.terms.specs.Records.{Cutting, runLength, runRate, runDepth}
+use Rattle.terms.specs.Lent.{RecordLists, lists, filled, roomIn, withRecords}
+use Rattle.terms.specs.LentLaws.{Filled, filled-front, lists-are}
+use Rattle.terms.specs.Records.{Cutting}
 use Rattle.series.specs.declared.plans.Plan.{Plan}
 use Rattle.series.specs.Series.{seriesOf}
 use Rattle.series.specs.Series as series
@@ -18,46 +17,8 @@ use Rattle.order_file.specs.declared.orders.Order.{Order}
 use Rattle.order_file.specs.Ordered.{Ordered, ordered, SpreadsOrder}
 use Rattle.order_file.specs.OrderedLaws.{found-order, demands-are, ordered-count, found-spread}
 use Rattle.planning.specs.declared.orders.PlannedOrder.{PlannedOrder}
-use Rattle.planning.specs.Planning.{RecordLists, Planned, lists, roomIn, withRecords, planned, plannedRuns, plannedFigures, cuttingOf, PlansOrder}
+use Rattle.planning.specs.Planning.{Planned, planned, plannedRuns, plannedFigures, cuttingOf, PlansOrder}
 use Rattle.planning.specs.PlannedLaws.{IsPlanned, is-planned}
-
--- What fills the front of a list, read off it: as many entries as there are.
-module _ (a : Answer (List ℕ)) (old new : List ℕ) (n : ℕ) (e : figures n ≡ onFigures length a) (f : new ≡ filled a old) where
-  entries : (xs : List ℕ) × (a ≡ figures xs) × (length xs ≡ n)
-  entries = on-figures length a (sym e)
-
-  front-is : take n new ≡ entries .0
-  front-is =
-      ap (take n) (f ∙ ap (λ (b : Answer (List ℕ)). filled b old) (entries .1))
-      ∙ ap (λ (m : ℕ). take m (filled (figures (entries .0)) old)) (sym (entries .2))
-      ∙ filled-front (entries .0) old
-
-  pub fills-front : a ≡ figures (take n new)
-  fills-front = entries .1 ∙ ap figures (sym front-is)
-
-  pub front-count : length (take n new) ≡ n
-  front-count = ap length front-is ∙ entries .2
-
-  pub front-inside : n ≤ length new
-  front-inside = omega (arith, length-take n new, front-count)
-
--- Three lists that an answer has filled.
-abbrev pub Filled : Answer Cutting → RecordLists → RecordLists → Type 0
-Filled a old new = Lists (old .runs) (old .rates) (old .depths) (new .runs) (new .rates) (new .depths) a
-
-pub lists-are : (a : Answer Cutting) (old : RecordLists) (xs ys zs : List ℕ) → Filled a old (lists xs ys zs) → lists xs ys zs ≡ withRecords a old
-lists-are a old xs ys zs e = rw (e .0, e .1 .0, e .1 .1)
-
--- Lists that have been filled have the room they had.
-pub room-kept : (xs : Cutting) (back : RecordLists) → length xs ≤ roomIn back → roomIn (withRecords (figures xs) back) ≡ roomIn back
-room-kept xs back l =
-    let r = rooms (length xs) (back .runs) (back .rates) (back .depths) l in
-    rw (kept runLength (back .runs) (r .first), kept runRate (back .rates) (r .second), kept runDepth (back .depths) (r .third))
-  where
-    kept : (figure : BucketRecord → ℕ) (old : List ℕ) → length xs ≤ length old → length (recorded figure (figures xs) old) ≡ length old
-    kept figure old m = length-append (map figure xs) _ ∙ omega (arith, length-map xs figure, length-drop (length (map figure xs)) old)
-
--- ---- The series planned
 
 -- The plan found with what the order says.
 abbrev pub withOrder : Order → Plan → PlannedOrder

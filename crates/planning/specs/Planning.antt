@@ -5,8 +5,8 @@ use mathlib.Core.Path.{_≡_}
 use mathlib.Core.List.{List}
 use lib.ListN.{length}
 use Rattle.terms.specs.Answer.{Answer, figures, refused, onFigures, andThen}
-use Rattle.terms.specs.Lent.{filled, recorded, roomOf}
-use Rattle.terms.specs.Records.{Cutting, runLength, runRate, runDepth}
+use Rattle.terms.specs.Lent.{RecordLists, filled, roomIn, withRecords}
+use Rattle.terms.specs.Records.{Cutting}
 use Rattle.terms.specs.Refusals.{numberOf}
 use Rattle.series.specs.Series.{trueCost, seriesOf}
 use Rattle.order_file.specs.declared.orders.Order.{Order}
@@ -14,26 +14,6 @@ use Rattle.order_file.specs.Ordered.{ordered, spreadFrom}
 use Rattle.planning.specs.declared.orders.PlannedOrder.{PlannedOrder}
 use Rattle.planning.specs.declared.orders.PlannedAnswer.{PlannedAnswer}
 use Rattle.planning.specs.declared.orders.PlannedAnswer.the-variants.{Found, Refused}
-
--- ---- What is lent for bucket records
-
--- Three lists lent for bucket records.
-pub record RecordLists : Type 0 where
-  pub runs : List ℕ
-  pub rates : List ℕ
-  pub depths : List ℕ
-
--- The same by their parts, for contracts.
-abbrev pub lists : List ℕ → List ℕ → List ℕ → RecordLists
-lists xs ys zs = record { runs = xs; rates = ys; depths = zs }
-
--- The entries of the shortest of three lists.
-abbrev pub roomIn : RecordLists → ℕ
-roomIn l = roomOf (l .runs) (l .rates) (l .depths)
-
--- Lists with the records of an answer at their front; on a refusal they are as they were.
-abbrev pub withRecords : Answer Cutting → RecordLists → RecordLists
-withRecords a old = record { runs = recorded runLength a (old .runs); rates = recorded runRate a (old .rates); depths = recorded runDepth a (old .depths) }
 
 -- ---- Planning
 

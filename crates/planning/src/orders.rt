@@ -9,8 +9,9 @@ use series::series;
 use terms::Refusal;
 ghost use mathlib.Core.Path.{_≡_};
 ghost use Rattle.terms.specs.Answer.{onFigures};
+ghost use Rattle.terms.specs.Lent.{lists};
 ghost use Rattle.series.specs.Series.{seriesSays};
-ghost use Rattle.planning.specs.Planning.{PlansOrder, lists, plannedSays};
+ghost use Rattle.planning.specs.Planning.{PlansOrder, plannedSays};
 ghost use Rattle.planning.specs.CallLaws.{withOrder};
 
 // What an order says and the plan found for it.

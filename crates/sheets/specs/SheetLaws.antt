@@ -12,7 +12,8 @@ use Rattle.terms.specs.declared.Factor.{Factor}
 use Rattle.terms.specs.declared.Tariff.{Tariff}
 use Rattle.terms.specs.Answer.{Answer, figures, refused}
 use Rattle.terms.specs.AnswerLaws.{on-refused, then-figures, then-refused}
-use Rattle.terms.specs.Lent.{roomOf}
+use Rattle.terms.specs.Lent.{RecordLists, lists, roomOf, roomIn}
+use Rattle.terms.specs.LentLaws.{room-kept}
 use Rattle.terms.specs.Limits.{traceLimit}
 use Rattle.terms.specs.RangeLaws.{RecordRange, TariffRange}
 use Rattle.terms.specs.Records.{Cutting, Each}
@@ -28,9 +29,9 @@ use Rattle.text.specs.Lines.{planLine}
 use Rattle.text.specs.PutLaws.{Puts, Room}
 use Rattle.text.specs.ChainLaws.{first-of-two, second-of-two, two}
 use Rattle.planning.specs.declared.orders.PlannedOrder.{PlannedOrder}
-use Rattle.planning.specs.Planning.{RecordLists, Planned, PlansOrder, lists, roomIn, planned, plannedFigures}
+use Rattle.planning.specs.Planning.{Planned, PlansOrder, planned, plannedFigures}
 use Rattle.planning.specs.PlannedLaws.{planned-cheapest, carried-sum, served-range}
-use Rattle.planning.specs.CallLaws.{room-kept, found-plan, found-as, found-is, trace-is, trace-inside, plan-is}
+use Rattle.planning.specs.CallLaws.{found-plan, found-as, found-is, trace-is, trace-inside, plan-is}
 use Rattle.sheets.specs.Sheet.{runLines, sheetText, sheetIn}
 use Rattle.sheets.specs.RunLaws.{Printable}
 use Rattle.sheets.specs.LengthLaws.{plan-line-short, runs-short}

@@ -1,9 +1,10 @@
 -- The fronts of four lists are kept, the calls made, and after a refusal the fronts put back.
 use native.Mathlib.Omega.{arith}
 use mathlib.Core.Path.{sym, ap}
+use Rattle.terms.specs.Lent.{lists}
 use Rattle.encoding.specs.NumberLaws.{Bytes}
-use Rattle.planning.specs.Planning.{lists}
-use Rattle.booking.specs.Booking.{Lent, bookingSays, lent}
+use Rattle.recording.specs.Recording.{bookingSays}
+use Rattle.booking.specs.Booking.{Lent, lent}
 use Rattle.booking.specs.ClaimLaws.{booked-claim, refused-claim}
 use borrow.Author.Needs.{needs}
 use borrow.Author.Needs.{needs}

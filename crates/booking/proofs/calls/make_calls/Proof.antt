@@ -1,6 +1,7 @@
 -- The plan is recorded as planning left it; a refusal to plan ends the list.
 use mathlib.Core.Path.{sym, ap}
-use Rattle.planning.specs.Planning.{lists, plannedSays}
+use Rattle.terms.specs.Lent.{lists}
+use Rattle.planning.specs.Planning.{plannedSays}
 use Rattle.planning.specs.CallLaws.{trace-count, trace-inside}
 use Rattle.booking.specs.Booking.{Lent, lent}
 use Rattle.booking.specs.CallLaws.{planning-refused, plan-recorded}

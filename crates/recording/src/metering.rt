@@ -18,8 +18,8 @@ ghost use Rattle.terms.specs.Records.{runLength, total};
 ghost use Rattle.meter.specs.MeterLaws.{Sound};
 ghost use Rattle.plan_file.specs.Plan.{recordsOf};
 ghost use Rattle.plan_file.specs.PlanRules.{CountsRange};
-ghost use Rattle.booking.specs.Booking.{metersOf, totalsOf};
-ghost use Rattle.booking.specs.MeteringLaws.{added, Few, totalsSays};
+ghost use Rattle.recording.specs.Recording.{metersOf, totalsOf};
+ghost use Rattle.recording.specs.MeteringLaws.{added, Few, totalsSays};
 
 // What the meters of the runs ended with, summed over the runs. The tokens held at the end of a run
 // lapse.

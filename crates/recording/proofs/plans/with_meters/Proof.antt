@@ -1,13 +1,13 @@
 -- Each case of the answer has its own case of the definition.
 use mathlib.Core.Path.{sym, ap}
 use Rattle.terms.specs.Answer.{onFigures}
-use Rattle.booking.specs.declared.metering.TotalsAnswer.{TotalsAnswer}
-use Rattle.booking.specs.MeteringLaws.{totalsSays}
-use Rattle.booking.specs.CallLaws.{withMeters}
+use Rattle.recording.specs.declared.metering.TotalsAnswer.{TotalsAnswer}
+use Rattle.recording.specs.MeteringLaws.{totalsSays}
+use Rattle.recording.specs.RecordingLaws.{withMeters}
 use borrow.Author.Needs.{needs}
 use borrow.Author.Needs.{needs}
-use Rattle.booking.proofs.calls.with_meters.Statement.{statement}
-use Rattle.booking.proofs.calls.with_meters.Tie as tie
+use Rattle.recording.proofs.plans.with_meters.Statement.{statement}
+use Rattle.recording.proofs.plans.with_meters.Tie as tie
 
 enum-known-answer : tie.Need-enum-known-answer
 enum-known-answer c = search needs

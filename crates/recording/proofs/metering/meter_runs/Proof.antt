@@ -13,10 +13,10 @@ use Rattle.meter.specs.Meter.{meterRun, openSays}
 use Rattle.meter.specs.MeterLaws.{Sound}
 use Rattle.meter.specs.MeterRuns.{metered-sound}
 use Rattle.plan_file.specs.Plan.{listed}
-use Rattle.booking.specs.MeteringLaws.{Metering, none-metered, one-metered, all-metered, run-inside, run-refused}
+use Rattle.recording.specs.MeteringLaws.{Metering, none-metered, one-metered, all-metered, run-inside, run-refused}
 use borrow.Author.Needs.{needs}
-use Rattle.booking.proofs.metering.meter_runs.Statement.{statement}
-use Rattle.booking.proofs.metering.meter_runs.Tie as tie
+use Rattle.recording.proofs.metering.meter_runs.Statement.{statement}
+use Rattle.recording.proofs.metering.meter_runs.Tie as tie
 
 abbrev Inv-loop : tie.InvT-loop
 Inv-loop trace factor buckets runs rates depths totals₀ start₀ i₀ totals start i = Metering factor trace runs rates depths buckets totals start i

@@ -9,16 +9,15 @@ use lib.Dec.{leb}
 use lib.ListN.{length}
 use lib.Seq.{length-take-le}
 use Rattle.terms.specs.Answer.{Answer, figures, onFigures}
-use Rattle.terms.specs.LentLaws.{room-each}
+use Rattle.terms.specs.Lent.{RecordLists, lists, roomIn}
+use Rattle.terms.specs.LentLaws.{front-inside, room-each}
 use Rattle.encoding.specs.Fill.{fillSays}
 use Rattle.plan_file.specs.Plan.{planSays, writePlan}
-use Rattle.planning.specs.Planning.{RecordLists, lists, roomIn}
-use Rattle.planning.specs.CallLaws.{front-inside}
-use Rattle.booking.specs.CallLaws.{no-room, write-refused, read-taken, back-ready, plan-metered}
+use Rattle.recording.specs.RecordingLaws.{no-room, write-refused, read-taken, back-ready, plan-metered}
 use borrow.Author.Needs.{needs}
 use borrow.Author.Needs.{needs}
-use Rattle.booking.proofs.calls.record_plan.Statement.{statement}
-use Rattle.booking.proofs.calls.record_plan.Tie as tie
+use Rattle.recording.proofs.plans.record_plan.Statement.{statement}
+use Rattle.recording.proofs.plans.record_plan.Tie as tie
 
 abbrev start-at : tie.Else1 → tie.Start
 start-at c = c .before .before .before .before .before .before .before .before .before .before

@@ -19,10 +19,10 @@ use Rattle.meter.specs.MeterLaws.{Sound}
 use Rattle.encoding.specs.Number.{itemsAt}
 use Rattle.encoding.specs.StoreLaws.{items-next, items-none}
 use Rattle.plan_file.specs.Plan.{listed, recordsOf}
-use Rattle.booking.specs.declared.metering.MeterTotals.{MeterTotals}
-use Rattle.booking.specs.declared.metering.TotalsAnswer.{TotalsAnswer}
-use Rattle.booking.specs.declared.metering.TotalsAnswer.the-variants.{Metered, Refused}
-use Rattle.booking.specs.Booking.{metersOf, totalsOf}
+use Rattle.recording.specs.declared.metering.MeterTotals.{MeterTotals}
+use Rattle.recording.specs.declared.metering.TotalsAnswer.{TotalsAnswer}
+use Rattle.recording.specs.declared.metering.TotalsAnswer.the-variants.{Metered, Refused}
+use Rattle.recording.specs.Recording.{metersOf, totalsOf}
 
 -- Each case of the answer in document 01's values and numbers.
 abbrev pub totalsSays : TotalsAnswer → Answer MeterTotals
