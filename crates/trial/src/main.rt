@@ -23,14 +23,14 @@ fn main() {
     let NumberAnswer::Number(rate) = argument(1) else {
         put(
             STDERR_FILENO,
-            b"trial: RATE is a whole number of kilobits\n",
+            b"trial: RATE is a whole number of kilobits, 0 to 4294967295\n",
         );
         return;
     };
     let NumberAnswer::Number(depth) = argument(2) else {
         put(
             STDERR_FILENO,
-            b"trial: DEPTH is a whole number of kilobits\n",
+            b"trial: DEPTH is a whole number of kilobits, 0 to 4294967295\n",
         );
         return;
     };
@@ -41,9 +41,9 @@ fn main() {
     print_trial(bucket);
 }
 
-// The number that an argument stands for. A word with more digits than a 32-bit number has is none.
+// The number that an argument stands for. A word of more than 64 bytes is none.
 fn argument(index: usize) -> NumberAnswer {
-    let mut word = [0u8; 10];
+    let mut word = [0u8; 64];
     let length = os::arg(index, &mut word);
     number_of(&word[..length])
 }
