@@ -16,7 +16,6 @@ use Rattle.terms.specs.Records.{Each}
 use Rattle.encoding.specs.Number.{bytesOfAll}
 use Rattle.text.specs.Numeral.{numeral, ended}
 use Rattle.order_text.specs.Decimal.{isDigit}
-use Rattle.text.specs.Numeral.{numeral, ended}
 use Rattle.order_text.specs.DecimalLaws.{push-within, valueFrom, Digits, value-grows, value-digits, digits-are, digits-some}
 use Rattle.order_text.specs.Text.{Reading, read, onRead, thenRead, tariffLimits, limitOf, figuresLimit, factorStands, Scan, newline, passed, withValue, afterByte, scanned, figuresOf, plainText}
 use Rattle.order_text.specs.ScanLaws.{digit-value, closed-figure, after-digit, after-end, text-closed, enough-all}

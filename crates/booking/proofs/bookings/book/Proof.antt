@@ -7,7 +7,6 @@ use Rattle.recording.specs.Recording.{bookingSays}
 use Rattle.booking.specs.Booking.{Lent, lent}
 use Rattle.booking.specs.ClaimLaws.{booked-claim, refused-claim}
 use borrow.Author.Needs.{needs}
-use borrow.Author.Needs.{needs}
 use Rattle.booking.proofs.bookings.book.Statement.{statement}
 use Rattle.booking.proofs.bookings.book.Tie as tie
 

@@ -6,7 +6,6 @@ use Rattle.planning.specs.CallLaws.{trace-count, trace-inside}
 use Rattle.booking.specs.Booking.{Lent, lent}
 use Rattle.booking.specs.CallLaws.{planning-refused, plan-recorded}
 use borrow.Author.Needs.{needs}
-use borrow.Author.Needs.{needs}
 use Rattle.booking.proofs.calls.make_calls.Statement.{statement}
 use Rattle.booking.proofs.calls.make_calls.Tie as tie
 

@@ -6,7 +6,6 @@ use lib.ListN.{length-replicate}
 use lib.Seq.{length-take-le}
 use Rattle.booking.specs.FrontLaws.{front-kept}
 use borrow.Author.Needs.{needs}
-use borrow.Author.Needs.{needs}
 use Rattle.booking.proofs.fronts.keep.Statement.{statement}
 use Rattle.booking.proofs.fronts.keep.Tie as tie
 

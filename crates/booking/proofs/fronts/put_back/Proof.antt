@@ -5,7 +5,6 @@ use mathlib.Core.Path.{sym, ap, _∙_}
 use lib.ListN.{take}
 use lib.Seq.{sets, length-take-le}
 use borrow.Author.Needs.{needs}
-use borrow.Author.Needs.{needs}
 use Rattle.booking.proofs.fronts.put_back.Statement.{statement}
 use Rattle.booking.proofs.fronts.put_back.Tie as tie
 

@@ -3,7 +3,6 @@ use mathlib.Core.Path.{sym, ap, _∙_}
 use Rattle.terms.specs.AnswerLaws.{then-figures, then-refused}
 use Rattle.meter.specs.Meter.{openSays}
 use borrow.Author.Needs.{needs}
-use borrow.Author.Needs.{needs}
 use Rattle.meter.proofs.runs.meter_run.Statement.{statement}
 use Rattle.meter.proofs.runs.meter_run.Tie as tie
 

@@ -5,7 +5,6 @@ use Rattle.series.specs.declared.plans.SeriesAnswer.{SeriesAnswer}
 use Rattle.series.specs.Series.{seriesSays}
 use Rattle.planning.specs.CallLaws.{withOrder}
 use borrow.Author.Needs.{needs}
-use borrow.Author.Needs.{needs}
 use Rattle.planning.proofs.orders.with_order.Statement.{statement}
 use Rattle.planning.proofs.orders.with_order.Tie as tie
 

@@ -15,7 +15,6 @@ use Rattle.encoding.specs.Fill.{fillSays}
 use Rattle.plan_file.specs.Plan.{planSays, writePlan}
 use Rattle.recording.specs.RecordingLaws.{no-room, write-refused, read-taken, back-ready, plan-metered}
 use borrow.Author.Needs.{needs}
-use borrow.Author.Needs.{needs}
 use Rattle.recording.proofs.plans.record_plan.Statement.{statement}
 use Rattle.recording.proofs.plans.record_plan.Tie as tie
 

@@ -5,7 +5,6 @@ use Rattle.recording.specs.declared.metering.TotalsAnswer.{TotalsAnswer}
 use Rattle.recording.specs.MeteringLaws.{totalsSays}
 use Rattle.recording.specs.RecordingLaws.{withMeters}
 use borrow.Author.Needs.{needs}
-use borrow.Author.Needs.{needs}
 use Rattle.recording.proofs.plans.with_meters.Statement.{statement}
 use Rattle.recording.proofs.plans.with_meters.Tie as tie
 

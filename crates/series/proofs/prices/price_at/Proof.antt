@@ -9,16 +9,6 @@ use Rattle.depth.specs.DepthLaws.{walk-within}
 use Rattle.depth.specs.Walk.{depthFrom}
 use Rattle.single.specs.Single.{atDepth}
 use Rattle.series.specs.Outline.{priceOf}
-use Prim.Native.Nat.{ℕ}
-use native.Mathlib.Nat.{le-trans}
-use mathlib.Core.Path.{_≡_, sym, ap, _∙_}
-use borrow.Author.Needs.{needs}
-use Rattle.terms.specs.Answer.{Answer, figures}
-use Rattle.depth.specs.Depth.{depthSays}
-use Rattle.depth.specs.DepthLaws.{walk-within}
-use Rattle.depth.specs.Walk.{depthFrom}
-use Rattle.single.specs.Single.{atDepth}
-use Rattle.series.specs.Outline.{priceOf}
 use Rattle.series.proofs.prices.price_at.Statement.{statement}
 use Rattle.series.proofs.prices.price_at.Tie as tie
 

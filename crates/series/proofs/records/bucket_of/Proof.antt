@@ -5,7 +5,6 @@ use Rattle.single.specs.Single.{singleSays}
 use Rattle.terms.specs.AnswerLaws.{figures-refused}
 use borrow.Author.Needs.{needs}
 use mathlib.Core.Path.{sym, ap, _∙_}
-use borrow.Author.Needs.{needs}
 use Rattle.series.proofs.records.bucket_of.Statement.{statement}
 use Rattle.series.proofs.records.bucket_of.Tie as tie
 

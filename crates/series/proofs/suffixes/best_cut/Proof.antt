@@ -2,7 +2,6 @@
 use Rattle.series.specs.SuffixLaws.{left-range, left-best}
 use borrow.Author.Needs.{needs}
 use mathlib.Core.Path.{_∙_}
-use borrow.Author.Needs.{needs}
 use Rattle.series.proofs.suffixes.best_cut.Statement.{statement}
 use Rattle.series.proofs.suffixes.best_cut.Tie as tie
 

@@ -7,7 +7,6 @@ use lib.IntN.{pos}
 use lib.Signed.{ltZ}
 use mir.Facts.{toZ-ofZ}
 use Rattle.text.specs.PutLaws.{puts-sign, puts-no-sign, sign-length}
-use borrow.Author.Needs.{needs}
 use Rattle.text.proofs.figures.put_sign.Statement.{statement}
 use Rattle.text.proofs.figures.put_sign.Tie as tie
 
