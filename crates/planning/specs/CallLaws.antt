@@ -14,7 +14,7 @@ use Rattle.series.specs.declared.plans.Plan.{Plan}
 use Rattle.series.specs.Series.{seriesOf}
 use Rattle.series.specs.Series as series
 use Rattle.order_file.specs.declared.orders.Order.{Order}
-use Rattle.order_file.specs.Ordered.{Ordered, ordered, SpreadsOrder}
+use Rattle.order_file.specs.Ordered.{ordered, SpreadsOrder}
 use Rattle.order_file.specs.OrderedLaws.{found-order, demands-are, ordered-count, found-spread}
 use Rattle.planning.specs.declared.orders.PlannedOrder.{PlannedOrder}
 use Rattle.planning.specs.Planning.{Planned, planned, plannedRuns, plannedFigures, cuttingOf, PlansOrder}

@@ -15,8 +15,6 @@ use Rattle.planning.specs.declared.orders.PlannedOrder.{PlannedOrder}
 use Rattle.planning.specs.declared.orders.PlannedAnswer.{PlannedAnswer}
 use Rattle.planning.specs.declared.orders.PlannedAnswer.the-variants.{Found, Refused}
 
--- ---- Planning
-
 -- What the calls up to planning give.
 pub record Planned : Type 0 where
   pub order : Order

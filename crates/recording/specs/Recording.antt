@@ -18,7 +18,7 @@ use Rattle.recording.specs.declared.plans.Booking.{Booking}
 use Rattle.recording.specs.declared.plans.BookingAnswer.{BookingAnswer}
 use Rattle.recording.specs.declared.plans.BookingAnswer.the-variants.{Booked, Refused}
 
--- What these calls give.
+-- What recording a plan gives: the bytes written, what is read back from them, and the meters of its runs.
 pub record Recording : Type 0 where
   pub file : List ℕ
   pub plan : Recorded

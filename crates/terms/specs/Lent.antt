@@ -23,7 +23,7 @@ roomOf xs ys zs = min (min (length xs) (length ys)) (length zs)
 
 -- ---- Three lists lent for bucket records
 
--- Three lists lent for bucket records.
+-- A list for each figure.
 pub record RecordLists : Type 0 where
   pub runs : List ℕ
   pub rates : List ℕ
