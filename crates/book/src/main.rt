@@ -1,13 +1,13 @@
 // Books the order on standard input: writes the plan file to standard output; or nothing there, and
 // the refusal line to standard error.
 use booking::BookingAnswer;
+use booking::book_file;
 use console::ORDER_ROOM;
 use console::has_words;
 use console::put_front;
 use console::read_all;
 use console::refuse;
 use libc::STDERR_FILENO;
-use terms::limits::TRACE_LIMIT;
 
 // The longest plan file: 32 bytes, and 12 for each of 512 buckets.
 const PLAN_ROOM: usize = 6176;
@@ -25,25 +25,8 @@ fn main() {
 }
 
 fn book_order(order: &[u8]) {
-    let mut demands = [0u16; TRACE_LIMIT];
-    let mut runs = [0u32; TRACE_LIMIT];
-    let mut rates = [0u32; TRACE_LIMIT];
-    let mut depths = [0u32; TRACE_LIMIT];
     let mut bytes = [0u8; PLAN_ROOM];
-    let mut back_runs = [0u32; TRACE_LIMIT];
-    let mut back_rates = [0u32; TRACE_LIMIT];
-    let mut back_depths = [0u32; TRACE_LIMIT];
-    let answer = booking::book(
-        order,
-        &mut demands,
-        &mut runs,
-        &mut rates,
-        &mut depths,
-        &mut bytes,
-        &mut back_runs,
-        &mut back_rates,
-        &mut back_depths,
-    );
+    let answer = book_file(order, &mut bytes);
     match answer {
         BookingAnswer::Booked(booked) => put_front(&bytes, booked.length),
         BookingAnswer::Refused(why) => refuse(STDERR_FILENO, why),

@@ -4,9 +4,11 @@ use Prim.Native.Nat.{ℕ}
 use mathlib.Core.List.{List}
 use lib.ListN.{length}
 use Rattle.terms.specs.Answer.{Answer, figures, onFigures, andThen}
-use Rattle.terms.specs.Lent.{RecordLists, filled, roomIn, withRecords}
+use Rattle.terms.specs.Lent.{filled}
+use Rattle.terms.specs.Records.{Cutting}
 use Rattle.series.specs.Series.{trueCost}
 use Rattle.plan_file.specs.declared.plans.PlanFigures.{PlanFigures}
+use Rattle.plan_file.specs.Plan.{writePlan}
 use Rattle.planning.specs.Planning.{Planned, planned}
 use Rattle.recording.specs.declared.plans.Booking.{Booking}
 use Rattle.recording.specs.Recording.{Recording, recording, bookingOf}
@@ -17,15 +19,15 @@ use Rattle.recording.specs.Recording.{Recording, recording, bookingOf}
 pub record Lent : Type 0 where
   -- the trace is spread into this list
   pub demands : List ℕ
-  -- the series is planned into these
-  pub plan : RecordLists
+  -- the series is planned into this list of bucket records
+  pub plan : Cutting
   -- the plan is written into these bytes
   pub bytes : List ℕ
-  -- and read back into these lists
-  pub back : RecordLists
+  -- and read back into this list of bucket records
+  pub back : Cutting
 
 -- The same by its parts, for contracts.
-abbrev pub lent : List ℕ → RecordLists → List ℕ → RecordLists → Lent
+abbrev pub lent : List ℕ → Cutting → List ℕ → Cutting → Lent
 lent ds l bs k = record { demands = ds; plan = l; bytes = bs; back = k }
 
 -- ---- The whole list of calls, on what is lent
@@ -37,17 +39,17 @@ pub record Steps : Type 0 where
 
 -- An order's bytes are planned on what is lent.
 abbrev pub plannedFor : Lent → List ℕ → Answer Planned
-plannedFor lent bs = planned (length (lent .demands)) (roomIn (lent .plan)) bs
+plannedFor lent bs = planned (length (lent .demands)) (length (lent .plan)) bs
 
 -- The plan's figures: the order's T, the number of buckets and the cost found.
 abbrev pub planFigures : Planned → PlanFigures
 planFigures x = record { periods = x .order .periods; buckets = length (x .cutting); cost = trueCost (x .order .tariff) (x .cutting) }
 
--- The plan is recorded from the records that planning has put at the front of its lists.
+-- The plan is written from the list as planning has left it, read back and metered.
 abbrev pub recordingFor : Lent → Planned → Answer Recording
 recordingFor lent x =
-    recording (roomIn (lent .back)) (length (lent .bytes)) (planFigures x) (withRecords (figures (x .cutting)) (lent .plan))
-    (x .order .tariff .factor) (x .demands)
+    let list = filled (figures (x .cutting)) (lent .plan) in
+    recording (length (lent .back)) (planFigures x) (writePlan (length (lent .bytes)) (planFigures x) list) (x .order .tariff .factor) (x .demands)
 
 -- The first refusal ends the list.
 abbrev pub booked : Lent → List ℕ → Answer Steps
@@ -64,7 +66,7 @@ abbrev pub lentAfter : Answer Steps → Lent → Lent
 lentAfter a old =
     record {
       demands = filled (onFigures (λ s. s .planning .demands) a) (old .demands);
-      plan = withRecords (onFigures (λ s. s .planning .cutting) a) (old .plan);
+      plan = filled (onFigures (λ s. s .planning .cutting) a) (old .plan);
       bytes = filled (onFigures (λ s. s .recording .file) a) (old .bytes);
-      back = withRecords (onFigures (λ s. s .recording .plan .buckets) a) (old .back);
+      back = filled (onFigures (λ s. s .recording .plan .buckets) a) (old .back);
     }

@@ -1,51 +1,101 @@
--- What the list of calls leaves, call by call, before anything is put back.
+-- The list of calls on number lists, which hold the figures of the records: what it answers depends on the lengths of what is
+-- lent alone, and what it leaves, call by call, before anything is put back.
 -- Assumes nothing.
 use Prim.Native.Nat.{ℕ}
-use mathlib.Core.Path.{_≡_, refl, sym, ap, subst, _∙_}
+use mathlib.Core.Path.{_≡_, refl, sym, ap, ap₂, subst, _∙_}
 use mathlib.Core.List.{List}
 use lib.ListN.{length, take}
 use Rattle.terms.specs.Answer.{Answer, figures, refused, onFigures, andThen}
 use Rattle.terms.specs.AnswerLaws.{on-refused, then-figures, then-refused}
-use Rattle.terms.specs.Lent.{RecordLists, filled, roomIn, withRecords}
+use Rattle.terms.specs.Lent.{filled}
 use Rattle.terms.specs.Records.{Cutting}
 use Rattle.order_file.specs.Ordered.{spreadFrom}
+use Rattle.record_list.specs.ListLaws.{lists-hold, lists-kept}
+use Rattle.record_list.specs.Lists.{RecordLists, Filled, recordsOf}
+use Rattle.plan_file.specs.declared.plans.PlanFigures.{PlanFigures}
+use Rattle.plan_file.specs.Plan.{planFile}
 use Rattle.planning.specs.declared.orders.PlannedOrder.{PlannedOrder}
-use Rattle.planning.specs.Planning.{Planned, PlansOrder, plannedFigures, cuttingOf}
-use Rattle.planning.specs.CallLaws.{found-plan, trace-is, plan-is}
+use Rattle.planning.specs.Planning.{Planned, planned, plannedFigures, cuttingOf}
+use Rattle.planning.specs.CallLaws.{PlansOrder, found-plan, trace-is, plan-is}
 use Rattle.recording.specs.declared.plans.Booking.{Booking}
-use Rattle.recording.specs.Recording.{Recording, written, bookingOf}
+use Rattle.recording.specs.Recording.{Recording, recording, written, bookingOf}
 use Rattle.recording.specs.RecordingLaws.{RecordsPlan, readFrom}
-use Rattle.booking.specs.Booking.{Lent, lent, plannedFor, recordingFor, planFigures, booked, answerOf}
+use Rattle.booking.specs.Booking.{Lent, Steps, planFigures, answerOf}
 
-abbrev pub writtenFor : Lent → Planned → Answer (List ℕ)
-writtenFor old x = written (roomIn (old .back)) (length (old .bytes)) (planFigures x) (withRecords (figures (x .cutting)) (old .plan))
+-- ---- The list of calls by the lengths of what is lent
 
-abbrev pub readFor : Lent → Planned → Answer Cutting
-readFor old x = readFrom (roomIn (old .back)) (length (old .bytes)) (planFigures x) (withRecords (figures (x .cutting)) (old .plan))
+pub record Sizes : Type 0 where
+  pub demands : ℕ
+  pub plan : ℕ
+  pub bytes : ℕ
+  pub back : ℕ
+
+-- The same by their parts, for contracts.
+abbrev pub sizes : ℕ → ℕ → ℕ → ℕ → Sizes
+sizes d l b k = record { demands = d; plan = l; bytes = b; back = k }
+
+abbrev pub sizesOf : Lent → Sizes
+sizesOf x = sizes (length (x .demands)) (length (x .plan)) (length (x .bytes)) (length (x .back))
+
+module _ (z : Sizes) where
+  abbrev pub plannedIn : List ℕ → Answer Planned
+  plannedIn bs = planned (z .demands) (z .plan) bs
+
+  -- The file of the plan found.
+  abbrev pub fileIn : Planned → Answer (List ℕ)
+  fileIn x = planFile (z .plan) (z .bytes) (planFigures x) (x .cutting)
+
+  abbrev pub writtenIn : Planned → Answer (List ℕ)
+  writtenIn x = written (z .back) (planFigures x) (fileIn x)
+
+  abbrev pub readIn : Planned → Answer Cutting
+  readIn x = readFrom (z .back) (planFigures x) (fileIn x)
+
+  abbrev pub recordingIn : Planned → Answer Recording
+  recordingIn x = recording (z .back) (planFigures x) (fileIn x) (x .order .tariff .factor) (x .demands)
+
+  abbrev pub bookedIn : List ℕ → Answer Steps
+  bookedIn bs = andThen (plannedIn bs) (λ x. onFigures (λ y. record { planning = x; recording = y }) (recordingIn x))
+
+-- ---- What is lent, with the records as lists of figures
+
+pub record ListsLent : Type 0 where
+  pub demands : List ℕ
+  pub plan : RecordLists
+  pub bytes : List ℕ
+  pub back : RecordLists
+
+-- The same by its parts, for contracts.
+abbrev pub lentLists : List ℕ → RecordLists → List ℕ → RecordLists → ListsLent
+lentLists ds l bs k = record { demands = ds; plan = l; bytes = bs; back = k }
 
 -- What the calls answer, and what each has left in what it was lent.
-pub record Called (bs : List ℕ) (old new : Lent) (answer : Answer Booking) : Type 0 where
-  pub answers : answer ≡ onFigures answerOf (booked old bs)
-  pub spreads : new .demands ≡ filled (spreadFrom (length (old .demands)) bs) (old .demands)
-  pub records : new .plan ≡ withRecords (cuttingOf (plannedFor old bs)) (old .plan)
-  pub writes : new .bytes ≡ filled (andThen (plannedFor old bs) (writtenFor old)) (old .bytes)
-  pub reads : new .back ≡ withRecords (andThen (plannedFor old bs) (readFor old)) (old .back)
+pub record Called (bs : List ℕ) (z : Sizes) (old new : ListsLent) (answer : Answer Booking) : Type 0 where
+  pub answers : answer ≡ onFigures answerOf (bookedIn z bs)
+  pub spreads : new .demands ≡ filled (spreadFrom (z .demands) bs) (old .demands)
+  pub records : Filled (cuttingOf (plannedIn z bs)) (old .plan) (new .plan)
+  pub writes : new .bytes ≡ filled (andThen (plannedIn z bs) (writtenIn z)) (old .bytes)
+  pub reads : Filled (andThen (plannedIn z bs) (readIn z)) (old .back) (new .back)
 
-module _ (bs : List ℕ) (old : Lent) (demands′ : List ℕ) (plan′ : RecordLists) (found : Answer PlannedOrder) (p : PlansOrder bs (old .demands) (old .plan) demands′ plan′ found) where
-  pub planning-refused : (n : ℕ) → found ≡ refused n → Called bs old (lent demands′ plan′ (old .bytes) (old .back)) (refused n)
+module _ (bs : List ℕ) (room space : ℕ) (old : ListsLent) (demands′ : List ℕ) (plan′ : RecordLists) (found : Answer PlannedOrder)
+    (p : PlansOrder bs (old .demands) room (old .plan) demands′ plan′ found) where
+  abbrev z : Sizes
+  z = sizes (length (old .demands)) room (length (old .bytes)) space
+
+  pub planning-refused : (n : ℕ) → found ≡ refused n → Called bs z old (lentLists demands′ plan′ (old .bytes) (old .back)) (refused n)
   planning-refused n f =
-      let e : plannedFor old bs ≡ refused n = on-refused plannedFigures (plannedFor old bs) (sym (p .answers) ∙ f) in
+      let e : plannedIn z bs ≡ refused n = on-refused plannedFigures (plannedIn z bs) (sym (p .answers) ∙ f) in
       record {
         answers = ap (onFigures answerOf) (then-refused _ _ e);
         spreads = p .spreads;
         records = p .records;
         writes = ap (λ (a : Answer (List ℕ)). filled a (old .bytes)) (then-refused _ _ e);
-        reads = ap (λ (a : Answer Cutting). withRecords a (old .back)) (then-refused _ _ e);
+        reads = lists-kept _ (old .back) n (sym (then-refused _ _ e));
       }
 
   module _ (y : PlannedOrder) (f : found ≡ figures y) where
-    abbrev found-here : (x : Planned) × (plannedFor old bs ≡ figures x) × (plannedFigures x ≡ y)
-    found-here = found-plan bs (old .demands) (old .plan) demands′ plan′ found p y f
+    abbrev found-here : (x : Planned) × (plannedIn z bs ≡ figures x) × (plannedFigures x ≡ y)
+    found-here = found-plan bs (old .demands) room (old .plan) demands′ plan′ found p y f
 
     abbrev x : Planned
     x = found-here .0
@@ -54,21 +104,30 @@ module _ (bs : List ℕ) (old : Lent) (demands′ : List ℕ) (plan′ : RecordL
     answers-so (figures z) = refl
     answers-so (refused n) = refl
 
-    abbrev Recorded-by : PlannedOrder → List ℕ → RecordLists → List ℕ → RecordLists → Answer Booking → Type 0
-    Recorded-by z ds l =
-        RecordsPlan (record { periods = z .order .periods; buckets = z .plan .buckets; cost = z .plan .cost }) (z .order .tariff .factor) ds l (old .bytes) (old .back)
+    abbrev figuresFor : PlannedOrder → PlanFigures
+    figuresFor z = record { periods = z .order .periods; buckets = z .plan .buckets; cost = z .plan .cost }
+
+    abbrev Recorded-by : PlannedOrder → List ℕ → Cutting → List ℕ → RecordLists → Answer Booking → Type 0
+    Recorded-by z ds xs =
+        RecordsPlan (figuresFor z) (planFile room (length (old .bytes)) (figuresFor z) xs) (z .order .tariff .factor) ds (old .bytes) space (old .back)
+
+    -- the lists planned into hold the records found
+    records-are : recordsOf (y .plan .buckets) (plan′ .runs) (plan′ .rates) (plan′ .depths) ≡ x .cutting
+    records-are =
+        ap (λ (z : PlannedOrder). recordsOf (z .plan .buckets) (plan′ .runs) (plan′ .rates) (plan′ .depths)) (sym (found-here .2))
+        ∙ lists-hold (x .cutting) (old .plan) plan′ (plan-is bs (old .demands) room (old .plan) demands′ plan′ found p y f)
 
     pub plan-recorded : (bytes′ : List ℕ) (back′ : RecordLists) (answer : Answer Booking)
-        → RecordsPlan (record { periods = y .order .periods; buckets = y .plan .buckets; cost = y .plan .cost }) (y .order .tariff .factor) (take (y .order .periods) demands′) plan′ (old .bytes) (old .back) bytes′ back′ answer
-        → Called bs old (lent demands′ plan′ bytes′ back′) answer
+        → Recorded-by y (take (y .order .periods) demands′) (recordsOf (y .plan .buckets) (plan′ .runs) (plan′ .rates) (plan′ .depths)) bytes′ back′ answer
+        → Called bs z old (lentLists demands′ plan′ bytes′ back′) answer
     plan-recorded bytes′ back′ answer r =
-        let a = subst (λ (ds : List ℕ). Recorded-by y ds plan′ bytes′ back′ answer) (trace-is bs (old .demands) (old .plan) demands′ plan′ found p y f) r in
-        let b = subst (λ (l : RecordLists). Recorded-by y (x .demands) l bytes′ back′ answer) (plan-is bs (old .demands) (old .plan) demands′ plan′ found p y f) a in
-        let c = subst (λ (z : PlannedOrder). Recorded-by z (x .demands) (withRecords (figures (x .cutting)) (old .plan)) bytes′ back′ answer) (sym (found-here .2)) b in
+        let a = subst (λ (ds : List ℕ). Recorded-by y ds (recordsOf (y .plan .buckets) (plan′ .runs) (plan′ .rates) (plan′ .depths)) bytes′ back′ answer) (trace-is bs (old .demands) room (old .plan) demands′ plan′ found p y f) r in
+        let b = subst (λ (xs : Cutting). Recorded-by y (x .demands) xs bytes′ back′ answer) records-are a in
+        let c = subst (λ (z : PlannedOrder). Recorded-by z (x .demands) (x .cutting) bytes′ back′ answer) (sym (found-here .2)) b in
         record {
-          answers = c .answers ∙ answers-so (recordingFor old x) ∙ ap (onFigures answerOf) (then-figures (plannedFor old bs) _ (found-here .1));
+          answers = c .answers ∙ answers-so (recordingIn z x) ∙ ap (onFigures answerOf) (then-figures (plannedIn z bs) _ (found-here .1));
           spreads = p .spreads;
           records = p .records;
-          writes = c .writes ∙ ap (λ (d : Answer (List ℕ)). filled d (old .bytes)) (then-figures (plannedFor old bs) (writtenFor old) (found-here .1));
-          reads = c .reads ∙ ap (λ (d : Answer Cutting). withRecords d (old .back)) (then-figures (plannedFor old bs) (readFor old) (found-here .1));
+          writes = c .writes ∙ ap (λ (d : Answer (List ℕ)). filled d (old .bytes)) (then-figures (plannedIn z bs) (writtenIn z) (found-here .1));
+          reads = subst (λ (d : Answer Cutting). Filled d (old .back) back′) (then-figures (plannedIn z bs) (readIn z) (found-here .1)) (c .reads);
         }

@@ -7,7 +7,6 @@ use mathlib.Core.List.{List}
 use lib.ListN.{length, take}
 use Rattle.terms.specs.declared.BucketRecord.{BucketRecord}
 use Rattle.terms.specs.Answer.{Answer, figures, refused, onFigures}
-use Rattle.terms.specs.Lent.{roomIn}
 use Rattle.terms.specs.Records.{Cutting, runRate, runDepth, Each}
 use Rattle.series.specs.Series.{Carried, trueCost}
 use Rattle.series.specs.SeriesLaws.{Cheapest}
@@ -15,7 +14,7 @@ use Rattle.encoding.specs.Number.{numberAt, itemsAt}
 use Rattle.order_file.specs.declared.orders.Order.{Order}
 use Rattle.order_file.specs.Order.{traceOffset, tariffIn, readOrder}
 use Rattle.order_file.specs.OrderRules.{OrderRules, orderIn}
-use Rattle.plan_file.specs.Plan.{planIn, planLength, recordsOf}
+use Rattle.plan_file.specs.Plan.{planIn, planLength}
 use Rattle.recording.specs.declared.plans.Booking.{Booking}
 use Rattle.recording.specs.Recording.{metersOf}
 use Rattle.booking.specs.Booking.{Lent, Steps, booked, answerOf, lentAfter}
@@ -44,13 +43,13 @@ costIn bs = trueCost (tariffIn bs)
 abbrev pub SeriesAnswer : List ℕ → Cutting → Type 0
 SeriesAnswer bs = Cheapest (tariffIn bs) (demandsAt bs)
 
--- As long as the work needs: T entries for spreading and planning; k for the lists read into, and the file length for the bytes,
+-- As long as the work needs: T entries for spreading and planning; k for the list read into, and the file length for the bytes,
 -- where there is a series answer, k being its number of buckets.
 pub record LongEnough (bs : List ℕ) (lent : Lent) : Type 0 where
   pub spreading : periodsIn bs ≤ length (lent .demands)
-  pub planning : periodsIn bs ≤ roomIn (lent .plan)
+  pub planning : periodsIn bs ≤ length (lent .plan)
   pub writing : (xs : Cutting) → SeriesAnswer bs xs → planLength (length xs) ≤ length (lent .bytes)
-  pub reading : (xs : Cutting) → SeriesAnswer bs xs → length xs ≤ roomIn (lent .back)
+  pub reading : (xs : Cutting) → SeriesAnswer bs xs → length xs ≤ length (lent .back)
 
 -- ---- What is found afterwards
 
@@ -64,9 +63,9 @@ pub record Kept (bs : List ℕ) (lent after : Lent) (answer : Answer Booking) (s
   -- "no step refuses":
   pub no-step-refuses : booked lent bs ≡ figures s
   pub answered : answer ≡ figures (answerOf s)
-  -- what is recorded is what reading back the front of the bytes gives, and the lists read into hold its buckets
+  -- what is recorded is what reading back the front of the bytes gives, and the list read into begins with its buckets
   pub recorded : planIn (take (length (s .recording .file)) (after .bytes)) ≡ figures (s .recording .plan)
-  pub recorded-lists : let xs = s .recording .plan .buckets in recordsOf (length xs) (after .back .runs) (after .back .rates) (after .back .depths) ≡ xs
+  pub recorded-list : let xs = s .recording .plan .buckets in take (length xs) (after .back) ≡ xs
   pub recorded-periods : s .recording .plan .periods ≡ periodsIn bs
   -- "the recorded plan is the series answer of document 01"
   pub is-series-answer : SeriesAnswer bs (s .recording .plan .buckets)

@@ -2,7 +2,7 @@
 -- lent is long enough, the series call alone decides: it finds no cutting, and there is none, or every step after it succeeds.
 -- Assumes nothing.
 use Prim.Native.Nat.{ℕ, _≤_}
-use mathlib.Core.Path.{_≡_, refl, sym, ap, subst, _∙_}
+use mathlib.Core.Path.{_≡_, refl, sym, ap, ap₂, subst, _∙_}
 use mathlib.Core.List.{List}
 use mathlib.Core.Logic.{_⊎_, inl, inr, ⊎-elim}
 use borrow.Author.Tests.{le-leb}
@@ -11,8 +11,8 @@ use lib.ListN.{length, take}
 use Rattle.terms.specs.declared.Tariff.{Tariff}
 use Rattle.terms.specs.Answer.{Answer, figures, refused, onFigures, andThen}
 use Rattle.terms.specs.AnswerLaws.{figures-refused, on-figures, on-refused, weigh-figures, then-figures, then-refused, then-found}
-use Rattle.terms.specs.Lent.{RecordLists, lists, roomIn}
-use Rattle.terms.specs.LentLaws.{filled-front}
+use Rattle.terms.specs.Lent.{filled}
+use Rattle.terms.specs.LentLaws.{filled-front, filled-length}
 use Rattle.terms.specs.RangeLaws.{PeriodsRange, periods-ok, tariff-ok}
 use Rattle.terms.specs.Records.{Cutting, Each}
 use Rattle.series.specs.Cutting.{none, run}
@@ -25,17 +25,16 @@ use Rattle.order_file.specs.OrderLaws.{demands-count, read-spread}
 use Rattle.order_file.specs.OrderRules.{OrderRules, orderIn, rules-read, read-rules}
 use Rattle.order_file.specs.Ordered.{Ordered, ordered}
 use Rattle.order_file.specs.OrderedLaws.{found-ordered}
-use Rattle.plan_file.specs.Plan.{Recorded, fitting, planIn, recordsOf}
-use Rattle.plan_file.specs.PlanLaws.{lists-hold}
+use Rattle.plan_file.specs.Plan.{Recorded, fitting, planFile, planIn}
 use Rattle.planning.specs.Planning.{Planned, plannedRuns}
 use Rattle.planning.specs.PlannedLaws.{IsPlanned, is-planned}
 use Rattle.recording.specs.declared.plans.Booking.{Booking}
-use Rattle.booking.specs.Booking.{Lent, Steps, lent, plannedFor, booked, answerOf, lentAfter}
+use Rattle.recording.specs.Recording.{recording}
+use Rattle.booking.specs.Booking.{Lent, Steps, plannedFor, planFigures, recordingFor, booked, answerOf, lentAfter}
 use Rattle.booking.specs.BookingLaws.{order-demands, planned-series}
 use Rattle.booking.specs.Claim.{periodsIn, demandsAt, CarriedIn, SeriesAnswer, LongEnough, InsideCaps, Kept, Demand3, Claim}
-use Rattle.booking.specs.StepLaws.{fileOf, recordingOf, file-fits, file-read, planned-meters, steps-figures, figures-left, refused-left}
-use Rattle.booking.specs.CallLaws.{Called, writtenFor}
-use Rattle.booking.specs.FrontLaws.{Front, restored}
+use Rattle.booking.specs.CallLaws.{Sizes, sizesOf, writtenIn, recordingIn, bookedIn}
+use Rattle.booking.specs.StepLaws.{fileOf, recordingOf, file-fits, written-read, planned-meters, planned-short, steps-figures}
 
 -- ---- A carried cutting is inside the caps
 
@@ -43,11 +42,29 @@ carried-caps : (bs : List ℕ) {ds : List ℕ} {xs : Cutting} → Carried (tarif
 carried-caps bs none = tt
 carried-caps bs (run f c) = (record { rate = f .fits .rates; depth = f .fits .depths }, carried-caps bs c)
 
--- What reading into lists gives is what the file holds.
+-- What reading into a list gives is what the file holds.
 fits-file : (room : ℕ) (a : Answer Recorded) (y : Recorded) → andThen a (fitting room) ≡ figures y → a ≡ figures y
 fits-file room a y e =
     let f = then-found a (fitting room) e in
     f .1 ∙ weigh-figures (leb (length (f .0 .buckets)) room) 6 (figures (f .0)) (f .2) .1
+
+-- ---- The list of calls on lent records is that by their lengths
+
+same-recording : (old : Lent) (x : Planned) → length (x .cutting) ≤ length (old .plan) → recordingFor old x ≡ recordingIn (sizesOf old) x
+same-recording old x l =
+    ap₂ (λ (n : ℕ) (xs : Cutting). recording (length (old .back)) (planFigures x) (planFile n (length (old .bytes)) (planFigures x) xs) (x .order .tariff .factor) (x .demands))
+    (filled-length (x .cutting) (old .plan) l) (filled-front (x .cutting) (old .plan))
+
+pub booked-sizes : (old : Lent) (bs : List ℕ) → booked old bs ≡ bookedIn (sizesOf old) bs
+booked-sizes old bs = go (plannedFor old bs) refl
+  where
+    go : (a : Answer Planned) → plannedFor old bs ≡ a → booked old bs ≡ bookedIn (sizesOf old) bs
+    go (refused n) e = sym (then-refused (plannedFor old bs) _ e) ∙ then-refused (plannedFor old bs) _ e
+    go (figures x) e =
+        let l = planned-short bs (length (old .demands)) (length (old .plan)) x (is-planned (length (old .demands)) (length (old .plan)) bs x e) .0 in
+        sym (then-figures (plannedFor old bs) (λ x. onFigures (λ y. record { planning = x; recording = y }) (recordingFor old x)) e)
+        ∙ ap (onFigures (λ y. record { planning = x; recording = y })) (same-recording old x l)
+        ∙ then-figures (plannedFor old bs) (λ x. onFigures (λ y. record { planning = x; recording = y }) (recordingIn (sizesOf old) x)) e
 
 -- ---- The two outcomes
 
@@ -65,23 +82,26 @@ module _ (bs : List ℕ) (h : Bytes bs) (old after : Lent) (answer : Answer Book
     abbrev t : Tariff
     t = tariffIn bs
 
+    abbrev z : Sizes
+    z = sizesOf old
+
     spreads : spreadOf (length (old .demands)) (tracePart bs) ≡ figures ds
     spreads =
         read-spread bs o e (length (old .demands)) (subst (λ (x : Order). x .periods ≤ length (old .demands)) (sym order-is) (long .spreading))
         ∙ ap figures (order-demands bs o e)
 
     -- planning rests with the series call
-    planned-so : plannedFor old bs ≡ plannedRuns (orderIn bs) ds (roomIn (old .plan))
+    planned-so : plannedFor old bs ≡ plannedRuns (orderIn bs) ds (length (old .plan))
     planned-so =
         let x : Ordered = record { order = orderIn bs; demands = ds } in
         let f = found-ordered (length (old .demands)) bs x (record { read = e ∙ ap figures order-is; spread = spreads }) in
-        sym (then-figures (ordered (length (old .demands)) bs) (λ y. plannedRuns (y .order) (y .demands) (roomIn (old .plan))) f)
+        sym (then-figures (ordered (length (old .demands)) bs) (λ y. plannedRuns (y .order) (y .demands) (length (old .plan))) f)
 
     count : length ds ≡ periodsIn bs
     count = ap length (sym (order-demands bs o e)) ∙ demands-count bs o e ∙ ap (λ (x : Order). x .periods) order-is
 
     abbrev series : Answer Cutting
-    series = seriesOf t (roomIn (old .plan)) ds
+    series = seriesOf t (length (old .plan)) ds
 
     -- ---- no cutting
 
@@ -89,8 +109,8 @@ module _ (bs : List ℕ) (h : Bytes bs) (old after : Lent) (answer : Answer Book
       n-is-7 : n ≡ 7
       n-is-7 =
           let p = subst PeriodsRange (sym count) (rules .periods) in
-          let l = subst (λ (m : ℕ). m ≤ roomIn (old .plan)) (sym count) (long .planning) in
-          series-refuses t ds (roomIn (old .plan)) (periods-ok _ p) (tariff-ok t (rules .tariff)) (le-leb _ _ l) n s
+          let l = subst (λ (m : ℕ). m ≤ length (old .plan)) (sym count) (long .planning) in
+          series-refuses t ds (length (old .plan)) (periods-ok _ p) (tariff-ok t (rules .tariff)) (le-leb _ _ l) n s
 
       none-is-7 : series ≡ refused 7
       none-is-7 = s ∙ ap refused n-is-7
@@ -101,7 +121,7 @@ module _ (bs : List ℕ) (h : Bytes bs) (old after : Lent) (answer : Answer Book
           answers ∙ ap (onFigures answerOf) (sym (then-refused (plannedFor old bs) _ p))
 
       no-cutting : (xs : Cutting) → CarriedIn bs xs → ⊥
-      no-cutting = series-none t ds (roomIn (old .plan)) none-is-7
+      no-cutting = series-none t ds (length (old .plan)) none-is-7
 
     -- ---- a plan
 
@@ -112,23 +132,23 @@ module _ (bs : List ℕ) (h : Bytes bs) (old after : Lent) (answer : Answer Book
       planned-is : plannedFor old bs ≡ figures x
       planned-is = planned-so ∙ ap (onFigures (λ ys. record { order = orderIn bs; demands = ds; cutting = ys })) s
 
-      is : IsPlanned (length (old .demands)) (roomIn (old .plan)) bs x
-      is = is-planned (length (old .demands)) (roomIn (old .plan)) bs x planned-is
+      is : IsPlanned (length (old .demands)) (length (old .plan)) bs x
+      is = is-planned (length (old .demands)) (length (old .plan)) bs x planned-is
 
       is-answer : SeriesAnswer bs xs
       is-answer = planned-series is
 
       abbrev file : List ℕ
-      file = fileOf old x
+      file = fileOf x
 
-      written-is : writtenFor old x ≡ figures file
-      written-is = file-fits bs h old x is (long .reading xs is-answer) (long .writing xs is-answer)
+      written-is : writtenIn z x ≡ figures file
+      written-is = file-fits bs h z x is (long .reading xs is-answer) (long .writing xs is-answer)
 
       abbrev steps : Steps
-      steps = record { planning = x; recording = recordingOf bs h old x is file }
+      steps = record { planning = x; recording = recordingOf bs h z x is file }
 
       booked-is : booked old bs ≡ figures steps
-      booked-is = steps-figures bs h old x is planned-is file written-is
+      booked-is = booked-sizes old bs ∙ steps-figures bs h z x is planned-is file written-is
 
       after-is : after ≡ lentAfter (figures steps) old
       after-is = leaves ∙ ap (λ (a : Answer Steps). lentAfter a old) booked-is
@@ -141,15 +161,13 @@ module _ (bs : List ℕ) (h : Bytes bs) (old after : Lent) (answer : Answer Book
             recorded =
                 ap (λ (l : Lent). planIn (take (length file) (l .bytes))) after-is
                 ∙ ap planIn (filled-front file (old .bytes))
-                ∙ fits-file (roomIn (old .back)) (planIn file) _ (file-read bs h old x is file written-is);
-            recorded-lists =
-                ap (λ (l : Lent). recordsOf (length xs) (l .back .runs) (l .back .rates) (l .back .depths)) after-is
-                ∙ lists-hold xs (old .back .runs) (old .back .rates) (old .back .depths);
+                ∙ fits-file (length (old .back)) (planIn file) _ (written-read bs h z x is file written-is);
+            recorded-list = ap (λ (l : Lent). take (length xs) (l .back)) after-is ∙ filled-front xs (old .back);
             recorded-periods = refl;
             is-series-answer = is-answer;
             carried = is-answer .carried;
-            metered = planned-meters bs h old x is .1;
-            nothing-discarded = planned-meters bs h old x is .2;
+            metered = planned-meters bs h z x is .1;
+            nothing-discarded = planned-meters bs h z x is .2;
             inside-caps = carried-caps bs (is-answer .carried);
             true-cost = refl;
             no-dearer-than-any = is-answer .cheapest;
@@ -185,19 +203,3 @@ module _ (bs : List ℕ) (h : Bytes bs) (old after : Lent) (answer : Answer Book
 
   pub claim-holds : Claim bs old after answer
   claim-holds = record { answers = answers; leaves = leaves; reads-every-order = rules-read bs; demand-3 = demand-met }
-
--- What was called, and after a refusal put back, keeps the claim.
-module _ (bs : List ℕ) (h : Bytes bs) (old : Lent) (demands : List ℕ) (plan : RecordLists) (bytes : List ℕ) (back : RecordLists) (answer : Answer Booking) (c : Called bs old (lent demands plan bytes back) answer) where
-  pub booked-claim : (x : Booking) → answer ≡ figures x → Claim bs old (lent demands plan bytes back) answer
-  booked-claim x e =
-      let s = on-figures answerOf (booked old bs) (sym (c .answers) ∙ e) in
-      claim-holds bs h old _ answer (c .answers) (figures-left bs old demands plan bytes back answer c (s .0) (s .1))
-
-  module _ (ds runs rates depths : List ℕ) (fd : Front (old .demands) ds) (fr : Front (old .plan .runs) runs) (fs : Front (old .plan .rates) rates) (ft : Front (old .plan .depths) depths) where
-    pub refused-claim : (n : ℕ) → answer ≡ refused n → (ds′ runs′ rates′ depths′ : List ℕ)
-        → ds′ ≡ restored ds demands → runs′ ≡ restored runs (plan .runs) → rates′ ≡ restored rates (plan .rates) → depths′ ≡ restored depths (plan .depths)
-        → Claim bs old (lent ds′ (lists runs′ rates′ depths′) bytes back) answer
-    refused-claim n e ds′ runs′ rates′ depths′ ed er es et =
-        let r = on-refused answerOf (booked old bs) (sym (c .answers) ∙ e) in
-        let same : lent ds′ (lists runs′ rates′ depths′) bytes back ≡ lent (restored ds demands) (lists (restored runs (plan .runs)) (restored rates (plan .rates)) (restored depths (plan .depths))) bytes back = rw (ed, er, es, et) in
-        claim-holds bs h old _ answer (c .answers) (same ∙ refused-left bs old demands plan bytes back answer c ds runs rates depths fd fr fs ft h n r)

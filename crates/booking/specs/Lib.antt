@@ -1,8 +1,10 @@
 -- The definitions that contracts cite, and their laws.
 pub mod Booking
 pub mod Claim
+pub mod Filed
 pub mod FrontLaws
 pub mod BookingLaws
 pub mod CallLaws
 pub mod StepLaws
 pub mod ClaimLaws
+pub mod BookedLists

@@ -2,9 +2,12 @@
 // in one call.
 mod bookings;
 mod calls;
+mod files;
 mod fronts;
+mod lists;
 
 pub use bookings::book;
+pub use files::book_file;
 pub use recording::Booking;
 pub use recording::BookingAnswer;
 pub use recording::MeterTotals;

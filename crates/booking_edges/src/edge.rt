@@ -6,7 +6,7 @@ use crate::rooms::print_rooms;
 use booking::Booking;
 use booking::BookingAnswer;
 use booking::MeterTotals;
-use booking::book;
+use list_calls::book_on;
 use order_file::write_order;
 use plan_file::PlanAnswer;
 use plan_file::PlanFigures;
@@ -18,13 +18,9 @@ use samples::file_bytes::LENT_BYTES;
 use samples::file_bytes::front;
 use samples::file_bytes::is_lent;
 use samples::file_bytes::lent_front;
-use samples::lists::DEPTHS_FROM;
 use samples::lists::ENTRIES;
-use samples::lists::RATES_FROM;
-use samples::lists::RUNS_FROM;
 use samples::lists::are_kept;
 use samples::lists::filled;
-use samples::lists::lent_entries;
 use terms::Tariff;
 
 // An order of this tariff and trace, booked in these rooms.
@@ -44,40 +40,35 @@ pub fn edge_of(name: &[u8], file: [u8; LENT_BYTES], length: usize, rooms: Rooms)
 // The answer and what is kept; and of a booking the records and the meters.
 fn book_in(order: &[u8], rooms: Rooms) {
     let mut demands = [LENT_DEMAND; ENTRIES];
-    let mut runs = filled(RUNS_FROM);
-    let mut rates = filled(RATES_FROM);
-    let mut depths = filled(DEPTHS_FROM);
     let mut bytes = [LENT; LENT_BYTES];
-    let mut back_runs = filled(RUNS_FROM);
-    let mut back_rates = filled(RATES_FROM);
-    let mut back_depths = filled(DEPTHS_FROM);
-    let answer = book(
+    let lent = book_on(
         order,
         lent_demands(&mut demands, rooms.demands),
-        lent_entries(&mut runs, rooms.lists.runs),
-        lent_entries(&mut rates, rooms.lists.rates),
-        lent_entries(&mut depths, rooms.lists.depths),
+        filled(),
+        rooms.list,
         lent_front(&mut bytes, rooms.bytes),
-        lent_entries(&mut back_runs, rooms.back.runs),
-        lent_entries(&mut back_rates, rooms.back.rates),
-        lent_entries(&mut back_depths, rooms.back.depths),
+        filled(),
+        rooms.back,
     );
+    let answer = lent.answer;
+    let plan = lent.plan;
+    let back = lent.back;
     print_answer(answer);
     let booking = booking_of(answer);
     let buckets = booking.plan.buckets as usize;
     let length = booking.length;
     report::kept(
         are_lent(&demands, booking.plan.periods as usize)
-            & are_kept(&runs, &rates, &depths, buckets)
+            & are_kept(plan, buckets)
             & is_lent(&bytes, length)
-            & are_kept(&back_runs, &back_rates, &back_depths, buckets),
+            & are_kept(back, buckets),
     );
     if 0 < buckets {
         report::words(b"planned");
-        read_again(&bytes, length, &runs, &rates, &depths);
+        read_again(&bytes, length, plan);
         report::words(b"read back");
-        read_again(&bytes, length, &back_runs, &back_rates, &back_depths);
-        print_runs(order, &demands, &back_runs, &back_rates, &back_depths);
+        read_again(&bytes, length, back);
+        print_runs(order, &demands, back);
     }
 }
 

@@ -4,7 +4,6 @@ use crate::rooms::Rooms;
 use crate::rooms::ample;
 use crate::rooms::rooms_of;
 use samples::lists::ENTRIES;
-use samples::lists::of_each;
 use samples::tariffs::from_empty;
 use samples::tariffs::full;
 use samples::tariffs::prices_of;
@@ -41,9 +40,9 @@ fn two_thirds(rate: u32, depth: u32, fee: u32) -> Tariff {
 
 // 512 periods and 23 buckets, in a file of 308 bytes: just enough, a byte short and an entry short.
 pub fn feature_edges() {
-    feature_in(rooms_of(512, of_each(512), 308, of_each(23)));
-    feature_in(rooms_of(ENTRIES, of_each(ENTRIES), 307, of_each(ENTRIES)));
-    feature_in(rooms_of(511, of_each(512), 308, of_each(23)));
+    feature_in(rooms_of(512, 512, 308, 23));
+    feature_in(rooms_of(ENTRIES, ENTRIES, 307, ENTRIES));
+    feature_in(rooms_of(511, 512, 308, 23));
 }
 
 fn feature_in(rooms: Rooms) {

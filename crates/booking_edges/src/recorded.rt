@@ -1,44 +1,28 @@
 // What a booking recorded: its file read again, and the meter of each run.
+use list_calls::read_on;
 use meter::MeterAnswer;
 use meter::meter_run;
 use order_file::OrderAnswer;
 use order_file::read_order;
-use plan_file::read_plan;
 use samples::demands::part_of;
 use samples::file_bytes::LENT_BYTES;
 use samples::file_bytes::front;
-use samples::lists::DEPTHS_FROM;
 use samples::lists::ENTRIES;
-use samples::lists::RATES_FROM;
-use samples::lists::RUNS_FROM;
+use samples::lists::are_same;
 use samples::lists::at_most;
 use samples::lists::filled;
-use samples::lists::same;
 use terms::Bucket;
-use terms::Depth;
-use terms::Rate;
+use terms::BucketRecord;
 ghost use Prim.Native.Nat.{_≤_};
 
-// What reading the front of the bytes gives, and whether its records are those in the lists.
-pub fn read_again(
-    bytes: &[u8; LENT_BYTES],
-    length: usize,
-    runs: &[u32; ENTRIES],
-    rates: &[u32; ENTRIES],
-    depths: &[u32; ENTRIES],
-) {
-    let mut file_runs = filled(RUNS_FROM);
-    let mut file_rates = filled(RATES_FROM);
-    let mut file_depths = filled(DEPTHS_FROM);
-    let answer = read_plan(
-        front(bytes, length),
-        &mut file_runs,
-        &mut file_rates,
-        &mut file_depths,
-    );
+// What reading the front of the bytes gives, and whether its records are those in the list.
+pub fn read_again(bytes: &[u8; LENT_BYTES], length: usize, list: [BucketRecord; ENTRIES]) {
+    let lent = read_on(front(bytes, length), filled(), ENTRIES);
+    let answer = lent.answer;
+    let read = lent.list;
     report::words(b", file read again:");
     report::plan(answer);
-    if same(runs, &file_runs) & same(rates, &file_rates) & same(depths, &file_depths) {
+    if are_same(list, read, 0) {
         report::words(b", same records\n");
     } else {
         report::words(b", other records\n");
@@ -47,13 +31,7 @@ pub fn read_again(
 
 // A line for each run until the order's last period: its first and last period, its bucket, and what
 // its meter ended with.
-pub fn print_runs(
-    order: &[u8],
-    demands: &[u16; ENTRIES],
-    runs: &[u32; ENTRIES],
-    rates: &[u32; ENTRIES],
-    depths: &[u32; ENTRIES],
-) {
+pub fn print_runs(order: &[u8], demands: &[u16; ENTRIES], list: [BucketRecord; ENTRIES]) {
     let OrderAnswer::Read(x) = read_order(order) else {
         return;
     };
@@ -63,11 +41,9 @@ pub fn print_runs(
         if x.periods as usize <= start {
             return;
         }
-        let end = end_of(start, runs[i]);
-        let bucket = Bucket {
-            rate: Rate(rates[i]),
-            depth: Depth(depths[i]),
-        };
+        let record = list[i];
+        let end = end_of(start, record.periods);
+        let bucket = record.bucket;
         report::figure(b"periods", start as u64 + 1);
         report::figure(b" to", end as u64);
         print_meter(

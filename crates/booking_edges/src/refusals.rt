@@ -8,8 +8,6 @@ use crate::rooms::rooms_of;
 use order_file::write_order;
 use samples::file_bytes::LENT;
 use samples::file_bytes::LENT_BYTES;
-use samples::lists::lent;
-use samples::lists::of_each;
 use samples::tariffs::from_empty;
 use samples::tariffs::printed_case;
 use samples::traces::CASE;
@@ -51,14 +49,12 @@ fn refused(name: &[u8], file: [u8; LENT_BYTES], length: usize) {
 }
 
 // Nothing carries 8,2. A list under the periods goes before; there is no bucket and no file that
-// the other lists and the bytes could be too short for.
+// the other list and the bytes could be too short for.
 fn no_plan() {
     no_plan_in(ample());
-    no_plan_in(rooms_of(2, of_each(2), 0, of_each(0)));
-    no_plan_in(rooms_of(1, of_each(2), 44, of_each(1)));
-    no_plan_in(rooms_of(2, lent(1, 2, 2), 44, of_each(1)));
-    no_plan_in(rooms_of(2, lent(2, 1, 2), 44, of_each(1)));
-    no_plan_in(rooms_of(2, lent(2, 2, 1), 44, of_each(1)));
+    no_plan_in(rooms_of(2, 2, 0, 0));
+    no_plan_in(rooms_of(1, 2, 44, 1));
+    no_plan_in(rooms_of(2, 1, 44, 1));
 }
 
 fn no_plan_in(rooms: Rooms) {

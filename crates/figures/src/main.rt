@@ -1,6 +1,9 @@
 // Prints the lettered figures of document 01 as the calls give them.
+use list_calls::series_on;
 use meter::MeterAnswer;
 use samples::file_bytes::front;
+use samples::lists::ENTRIES;
+use samples::lists::record_of;
 use samples::tariffs::caps_of;
 use samples::tariffs::from_empty;
 use samples::tariffs::half;
@@ -100,25 +103,21 @@ fn printed_row() {
 
 // The series of at most three periods, and each of its buckets.
 fn series_row(name: &[u8], trace: &[u16], tariff: Tariff) {
-    let mut runs = [0u32; 3];
-    let mut rates = [0u32; 3];
-    let mut depths = [0u32; 3];
+    let lent = series_on(trace, tariff, [record_of(0, 0, 0); ENTRIES], 3);
+    let answer = lent.answer;
+    let list = lent.list;
     report::words(name);
-    report::series(series::series(trace, tariff, &mut runs, &mut rates, &mut depths));
-    bucket_of(runs[0], rates[0], depths[0]);
-    bucket_of(runs[1], rates[1], depths[1]);
-    bucket_of(runs[2], rates[2], depths[2]);
+    report::series(answer);
+    print_bucket(list[0]);
+    print_bucket(list[1]);
+    print_bucket(list[2]);
     report::end_line();
 }
 
 // A bucket, where its run has any period.
-fn bucket_of(periods: u32, rate: u32, depth: u32) {
-    if 0 < periods {
-        let bucket = Bucket {
-            rate: Rate(rate),
-            depth: Depth(depth),
-        };
-        report::record(BucketRecord { periods, bucket });
+fn print_bucket(x: BucketRecord) {
+    if 0 < x.periods {
+        report::record(x);
     }
 }
 

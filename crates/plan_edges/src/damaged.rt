@@ -22,7 +22,6 @@ use samples::file_bytes::bytes_of;
 use samples::file_bytes::front;
 use samples::file_bytes::with_word;
 use samples::lists::ENTRIES;
-use samples::lists::of_each;
 
 pub fn edges() {
     lengths();
@@ -35,7 +34,7 @@ pub fn edges() {
 // The front of a file of these words.
 fn cut(words: [u32; WORDS], length: usize) {
     let file = bytes_of(words);
-    read_into(front(&file, length), of_each(ENTRIES));
+    read_into(front(&file, length), ENTRIES);
 }
 
 // One number changed.

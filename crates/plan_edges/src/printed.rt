@@ -1,11 +1,12 @@
 // The printed case's plan: written, shown byte by byte, and read.
 use crate::reading::read_into;
+use list_calls::write_on;
 use plan_file::PlanFigures;
-use plan_file::write_plan;
 use samples::file_bytes::FILE_ROOM;
 use samples::file_bytes::LENT;
 use samples::file_bytes::front;
-use samples::lists::of_each;
+use samples::lists::ENTRIES;
+use samples::lists::record_of;
 
 pub fn case() {
     let plan = PlanFigures {
@@ -13,11 +14,11 @@ pub fn case() {
         buckets: 2,
         cost: 40,
     };
-    let runs: [u32; 2] = [2, 1];
-    let rates: [u32; 2] = [5, 0];
-    let depths: [u32; 2] = [4, 4];
+    let mut list = [record_of(0, 0, 0); ENTRIES];
+    list[0] = record_of(2, 5, 4);
+    list[1] = record_of(1, 0, 4);
     let mut bytes = [LENT; FILE_ROOM];
-    let answer = write_plan(plan, &runs, &rates, &depths, &mut bytes);
+    let answer = write_on(plan, list, 2, &mut bytes);
     report::words(b"printed case:");
     report::fill(answer);
     report::end_line();
@@ -28,5 +29,5 @@ pub fn case() {
 fn show(bytes: [u8; FILE_ROOM]) {
     let file = front(&bytes, 56);
     report::hex_lines(file);
-    read_into(file, of_each(2));
+    read_into(file, 2);
 }

@@ -1,19 +1,14 @@
-// Plans of up to two buckets written, from lists and into bytes of several lengths. Entries after
+// Plans of up to two buckets written, from a list and into bytes of several lengths. Records after
 // the two break every rule: no plan that is written holds them.
-use crate::reading::print_lengths;
+use crate::reading::print_entries;
+use list_calls::write_on;
 use plan_file::PlanFigures;
-use plan_file::write_plan;
 use samples::file_bytes::LENT;
 use samples::file_bytes::LENT_BYTES;
 use samples::file_bytes::lent_front;
-use samples::lists::Lengths;
-use samples::lists::first_entries;
-use samples::lists::lent;
-use samples::lists::of_each;
-use terms::Bucket;
+use samples::lists::ENTRIES;
+use samples::lists::record_of;
 use terms::BucketRecord;
-use terms::Depth;
-use terms::Rate;
 
 pub fn edges() {
     rooms();
@@ -22,26 +17,15 @@ pub fn edges() {
     several();
 }
 
-// One edge: a plan of these figures and records, from lists of these lengths into so many bytes.
-fn edge(plan: PlanFigures, first: BucketRecord, last: BucketRecord, lent: Lengths, length: usize) {
-    let runs = [first.periods, last.periods, 0, 0];
-    let rates = [first.bucket.rate.0, last.bucket.rate.0, 9999, 9999];
-    let depths = [
-        first.bucket.depth.0,
-        last.bucket.depth.0,
-        2_000_000,
-        2_000_000,
-    ];
+// One edge: a plan of these figures and records, from a list of so many entries into so many bytes.
+fn edge(plan: PlanFigures, first: BucketRecord, last: BucketRecord, entries: usize, length: usize) {
+    let mut list = [record_of(0, 9999, 2_000_000); ENTRIES];
+    list[0] = first;
+    list[1] = last;
     let mut bytes = [LENT; LENT_BYTES];
-    let answer = write_plan(
-        plan,
-        first_entries(&runs, lent.runs),
-        first_entries(&rates, lent.rates),
-        first_entries(&depths, lent.depths),
-        lent_front(&mut bytes, length),
-    );
+    let answer = write_on(plan, list, entries, lent_front(&mut bytes, length));
     print_plan(plan, first, last);
-    print_lengths(lent);
+    print_entries(entries);
     report::words(b"into");
     report::number(length as u64);
     report::words(b":");
@@ -70,23 +54,13 @@ fn figures_of(periods: u32, buckets: u32, cost: u64) -> PlanFigures {
     }
 }
 
-fn record_of(periods: u32, rate: u32, depth: u32) -> BucketRecord {
-    BucketRecord {
-        periods,
-        bucket: Bucket {
-            rate: Rate(rate),
-            depth: Depth(depth),
-        },
-    }
-}
-
-// The printed case's plan, from lists of these lengths into so many bytes.
-fn printed_to(lent: Lengths, length: usize) {
+// The printed case's plan, from a list of so many entries into so many bytes.
+fn printed_to(entries: usize, length: usize) {
     edge(
         figures_of(3, 2, 40),
         record_of(2, 5, 4),
         record_of(1, 0, 4),
-        lent,
+        entries,
         length,
     );
 }
@@ -97,34 +71,32 @@ fn figures(periods: u32, buckets: u32, cost: u64) {
         figures_of(periods, buckets, cost),
         record_of(2, 5, 4),
         record_of(1, 0, 4),
-        of_each(4),
+        4,
         80,
     );
 }
 
 // The printed case's figures with other records.
 fn recorded(first: BucketRecord, last: BucketRecord) {
-    edge(figures_of(3, 2, 40), first, last, of_each(4), 80);
+    edge(figures_of(3, 2, 40), first, last, 4, 80);
 }
 
-// Bytes around the file's length, and lists around the number of buckets.
+// Bytes around the file's length, and a list around the number of buckets.
 fn rooms() {
-    printed_to(of_each(2), 0);
-    printed_to(of_each(2), 32);
-    printed_to(of_each(2), 55);
-    printed_to(of_each(2), 56);
-    printed_to(of_each(2), 57);
-    printed_to(of_each(4), 56);
-    printed_to(lent(2, 3, 4), 56);
-    printed_to(lent(1, 2, 2), 56);
-    printed_to(lent(2, 1, 2), 56);
-    printed_to(lent(2, 2, 1), 56);
-    printed_to(of_each(0), 56);
-    printed_to(of_each(1), 55);
+    printed_to(2, 0);
+    printed_to(2, 32);
+    printed_to(2, 55);
+    printed_to(2, 56);
+    printed_to(2, 57);
+    printed_to(4, 56);
+    printed_to(3, 56);
+    printed_to(1, 56);
+    printed_to(0, 56);
+    printed_to(1, 55);
 }
 
 // T, k and the cost at their limits and past them; a T that is not the sum of the run lengths; and
-// a k for which a record is bad, or for which the lists are too short.
+// a k for which a record is bad, or for which the list is too short.
 fn counts() {
     figures(0, 0, 40);
     figures(0, 2, 40);
@@ -165,18 +137,17 @@ fn records() {
     recorded(first, record_of(1, 4_294_967_295, 4_294_967_295));
 }
 
-// Several things wrong. From lists under k no record is weighed, but the cost is.
+// Several things wrong. From a list under k no record is weighed, but the cost is.
 fn several() {
     let good = figures_of(3, 2, 40);
     let dear = figures_of(3, 2, 100_000_000_000_001);
     let many = figures_of(3, 4, 100_000_000_000_001);
     let first = record_of(2, 5, 4);
     let bad = record_of(0, 4096, 1_000_001);
-    edge(good, bad, bad, of_each(1), 80);
-    edge(good, bad, bad, lent(2, 2, 1), 80);
-    edge(good, first, bad, of_each(2), 55);
-    edge(dear, first, bad, of_each(1), 80);
-    edge(dear, first, bad, of_each(2), 55);
-    edge(dear, bad, bad, of_each(0), 0);
-    edge(many, bad, bad, of_each(0), 0);
+    edge(good, bad, bad, 1, 80);
+    edge(good, first, bad, 2, 55);
+    edge(dear, first, bad, 1, 80);
+    edge(dear, first, bad, 2, 55);
+    edge(dear, bad, bad, 0, 0);
+    edge(many, bad, bad, 0, 0);
 }

@@ -3,3 +3,4 @@ pub mod Plan
 pub mod RecordLaws
 pub mod PlanRules
 pub mod PlanLaws
+pub mod CallLaws

@@ -4,14 +4,13 @@ use Prim.Native.Nat.{ℕ, _+_, _*_}
 use mathlib.Core.Bool.{Bool, true, _&&_}
 use mathlib.Core.List.{List, [], _∷_, _++_}
 use lib.Dec.{leb, eqb}
-use lib.ListN.{length, getD}
+use lib.ListN.{length, take}
 use Rattle.terms.specs.declared.BucketRecord.{BucketRecord}
 use Rattle.terms.specs.Answer.{Answer, figures, refused, weigh, onFigures, andThen}
 use Rattle.terms.specs.Refusals.{numberOf}
 use Rattle.terms.specs.Limits.{costLimit}
 use Rattle.terms.specs.Ranges.{periodsOk, recordOk}
-use Rattle.terms.specs.Records.{Cutting, runLength, runRate, runDepth, total}
-use Rattle.terms.specs.Lent.{roomOf}
+use Rattle.terms.specs.Records.{Cutting, recordOf, runLength, runRate, runDepth, total}
 use Rattle.plan_file.specs.declared.plans.PlanFigures.{PlanFigures}
 use Rattle.plan_file.specs.declared.plans.PlanAnswer.{PlanAnswer}
 use Rattle.plan_file.specs.declared.plans.PlanAnswer.the-variants.{Read, Refused}
@@ -69,10 +68,6 @@ pub record Recorded : Type 0 where
   pub cost : ℕ
   pub buckets : Cutting
 
--- The record of a run length, a rate and a depth.
-abbrev pub recordOf : ℕ → ℕ → ℕ → BucketRecord
-recordOf n r B = record { periods = n; bucket = record { rate = record { 0 = r }; depth = record { 0 = B } } }
-
 -- The record at a place of a file.
 abbrev pub recordAt : List ℕ → ℕ → BucketRecord
 recordAt bs at = recordOf (numberAt 4 bs at) (numberAt 4 bs (at + 4)) (numberAt 4 bs (at + 8))
@@ -95,7 +90,7 @@ planIn bs =
     (weigh (recordsOk T (recordsIn k bs)) 5
     (figures (record { periods = T; cost = cost; buckets = recordsIn k bs })))))))
 
--- 6, once the file itself is weighed: lists with less room than buckets.
+-- 6, once the file itself is weighed: a lent list with fewer entries than buckets.
 abbrev pub fitting : ℕ → Recorded → Answer Recorded
 fitting room x = weigh (leb (length (x .buckets)) room) 6 (figures x)
 
@@ -103,11 +98,7 @@ fitting room x = weigh (leb (length (x .buckets)) room) 6 (figures x)
 abbrev pub readPlan : ℕ → List ℕ → Answer Recorded
 readPlan room bs = andThen (planIn bs) (fitting room)
 
--- What reading into three lent lists gives.
-abbrev pub readInto : List ℕ → List ℕ → List ℕ → List ℕ → Answer Recorded
-readInto bs runs rates depths = readPlan (roomOf runs rates depths) bs
-
--- The figures that are answered, and the records that fill the lists.
+-- The figures that are answered, and the records that fill the list.
 abbrev pub figuresOf : Answer Recorded → Answer PlanFigures
 figuresOf = onFigures (λ x. record { periods = x .periods; buckets = length (x .buckets); cost = x .cost })
 
@@ -121,21 +112,17 @@ planSays (Refused x) = refused (numberOf x)
 
 -- ---- Writing
 
--- The record at an index of three lists of run lengths, rates and depths.
-abbrev pub listed : List ℕ → List ℕ → List ℕ → ℕ → BucketRecord
-listed runs rates depths i = recordOf (getD runs i 0) (getD rates i 0) (getD depths i 0)
-
--- The first k records of the lists.
-abbrev pub recordsOf : ℕ → List ℕ → List ℕ → List ℕ → Cutting
-recordsOf k runs rates depths = itemsAt (listed runs rates depths) 1 k 0
-
--- 3: T and k; 5: the cost; 6: lists under k, whose records are not weighed; 5: the records; 6: bytes fewer than the file.
-unfoldable pub writePlan : ℕ → PlanFigures → List ℕ → List ℕ → List ℕ → Answer (List ℕ)
-writePlan room x runs rates depths =
-    let xs = recordsOf (x .buckets) runs rates depths in
+-- The file of the records xs, which stand at the front of a list of `space` entries, in `room` bytes. 3: T and k; 5: the cost;
+-- 6: a list under k, whose records are not weighed; 5: the records; 6: bytes fewer than the file.
+unfoldable pub planFile : ℕ → ℕ → PlanFigures → Cutting → Answer (List ℕ)
+planFile space room x xs =
     weigh (countsOk (x .periods) (x .buckets)) 3
     (weigh (leb (x .cost) costLimit) 5
-    (weigh (leb (x .buckets) (roomOf runs rates depths)) 6
+    (weigh (leb (x .buckets) space) 6
     (weigh (recordsOk (x .periods) xs) 5
     (weigh (leb (planLength (x .buckets)) room) 6
     (figures (planBytes (x .periods) (x .cost) xs))))))
+
+-- What writing gives: the file of the first k records of the lent list.
+abbrev pub writePlan : ℕ → PlanFigures → Cutting → Answer (List ℕ)
+writePlan room x list = planFile (length list) room x (take (x .buckets) list)

@@ -4,22 +4,22 @@
 use Prim.Native.Nat.{ℕ, zero, suc, _+_, _*_, _≤_, _<_}
 use native.Mathlib.Omega.{arith}
 use mathlib.Core.Path.{_≡_, refl, sym, ap, ap₂, subst, _∙_}
-use mathlib.Core.List.{List, [], _∷_, _++_, map, append-nil, append-assoc}
+use mathlib.Core.List.{List, [], _∷_, _++_, append-nil, append-assoc}
 use borrow.Author.Tests.{le-leb}
-use lib.ListN.{length, take, drop, getD, length-drop, length-map, take-append-drop, List·getD-append, List·getD-map}
-use lib.Seq.{take-add, take-all, ext-getD}
+use lib.ListN.{length, take, drop, getD, length-drop, take-append-drop}
+use lib.Seq.{length-take-le, take-add, take-all}
 use Rattle.terms.specs.declared.BucketRecord.{BucketRecord}
 use Rattle.terms.specs.Answer.{figures}
 use Rattle.terms.specs.Limits.{costLimit}
-use Rattle.terms.specs.Lent.{recorded, roomOf}
-use Rattle.terms.specs.Records.{Cutting, Each, runLength, runRate, runDepth, total}
+use Rattle.terms.specs.Records.{Cutting, Each, recordOf, runLength, runRate, runDepth, total}
 use Rattle.plan_file.specs.declared.plans.PlanFigures.{PlanFigures}
 use Rattle.encoding.specs.Number.{bytesOf, numberAt, bytesOfAll, itemsAt}
-use Rattle.encoding.specs.NumberLaws.{Within, Bytes, numbers-written, numbers-read, each-at, length-bytes, length-all, length-items, item-at, number-written, number-read, items-written, items-read}
+use Rattle.encoding.specs.NumberLaws.{Within, Bytes, numbers-written, numbers-read, each-at, length-bytes, length-all, length-items, number-written, number-read, items-written, items-read}
 use Rattle.encoding.specs.HeaderLaws.{Placed}
-use Rattle.plan_file.specs.RecordLaws.{RecordsRange, noRecord, records-ok}
-use Rattle.plan_file.specs.Plan.{Recorded, costOffset, bucketsOffset, planLength, planWords, planBytes, recordBytes, recordOf, recordAt, recordsIn, planIn, readPlan, listed, recordsOf, writePlan}
-use Rattle.plan_file.specs.PlanRules.{PlanRules, CountsRange, counts-ok, bucketsIn, recordedIn, rules-read, read-rules, read-fits, write-figures, write-rules, length-head, length-record, length-plan, length-records}
+use Rattle.record_list.specs.ListLaws.{noRecord}
+use Rattle.plan_file.specs.RecordLaws.{RecordsRange, records-ok}
+use Rattle.plan_file.specs.Plan.{Recorded, costOffset, bucketsOffset, planLength, planWords, planBytes, recordBytes, recordAt, recordsIn, planIn, readPlan, planFile, writePlan}
+use Rattle.plan_file.specs.PlanRules.{PlanRules, CountsRange, counts-ok, bucketsIn, recordedIn, rules-read, read-rules, read-fits, write-figures, write-rules, length-head, length-record, length-plan}
 
 -- ---- One record
 
@@ -127,16 +127,20 @@ module _ (T cost : ℕ) (xs : Cutting) (c : CountsRange T (length xs)) (limit : 
       same : recordedIn bs ≡ these
       same = rw (periods-is, cost-is, records-are)
 
--- A written plan reads back as the same figures and records, into any lists that have room for them.
-pub write-read : (room : ℕ) (x : PlanFigures) (runs rates depths bs : List ℕ) → writePlan room x runs rates depths ≡ figures bs
-    → (space : ℕ) → x .buckets ≤ space
-    → readPlan space bs ≡ figures (record { periods = x .periods; cost = x .cost; buckets = recordsOf (x .buckets) runs rates depths })
-write-read room x runs rates depths bs e space l =
-    let xs = recordsOf (x .buckets) runs rates depths in
-    let w = write-rules room x runs rates depths bs e in
-    let n : length xs ≡ x .buckets = length-records (x .buckets) runs rates depths in
+-- A written plan reads back as the same figures and records, into any list that has room for them.
+pub file-read : (space room : ℕ) (x : PlanFigures) (xs : Cutting) (bs : List ℕ) → length xs ≡ x .buckets → planFile space room x xs ≡ figures bs
+    → (back : ℕ) → x .buckets ≤ back → readPlan back bs ≡ figures (record { periods = x .periods; cost = x .cost; buckets = xs })
+file-read space room x xs bs n e back l =
+    let w = write-rules space room x xs bs e in
     let r = plan-read (x .periods) (x .cost) xs (subst (CountsRange (x .periods)) (sym n) (w .counts)) (w .cost) (w .records) in
-    ap (readPlan space) (sym (w .is)) ∙ read-fits space (planBytes (x .periods) (x .cost) xs) _ r (omega (arith, n))
+    ap (readPlan back) (sym (w .is)) ∙ read-fits back (planBytes (x .periods) (x .cost) xs) _ r (omega (arith, n))
+
+pub write-read : (room : ℕ) (x : PlanFigures) (list : Cutting) (bs : List ℕ) → writePlan room x list ≡ figures bs
+    → (back : ℕ) → x .buckets ≤ back → readPlan back bs ≡ figures (record { periods = x .periods; cost = x .cost; buckets = take (x .buckets) list })
+write-read room x list bs e =
+    let xs = take (x .buckets) list in
+    let n = length-take-le (x .buckets) list (write-rules (length list) room x xs bs e .list) in
+    file-read (length list) room x xs bs n e
 
 -- ---- Reading and then writing
 
@@ -163,20 +167,20 @@ bytes-read bs h r =
     ap₂ (λ (xs ys : List ℕ). xs ++ ys) (ap₂ (λ (xs ys : List ℕ). xs ++ ys) words cost ∙ sym (take-add 24 8 bs)) records
     ∙ take-append-drop 32 bs
 
--- Writing the figures x, and their records from the front of any lists that hold them, gives the bytes.
+-- Writing the figures x, and their records from the front of any list that begins with them, gives the bytes.
 abbrev pub Writes : Recorded → List ℕ → Type 0
 Writes x bs =
-    (runs rates depths : List ℕ) → recordsOf (length (x .buckets)) runs rates depths ≡ x .buckets → length (x .buckets) ≤ roomOf runs rates depths
-    → (room : ℕ) → length bs ≤ room → writePlan room (record { periods = x .periods; buckets = length (x .buckets); cost = x .cost }) runs rates depths ≡ figures bs
+    (list : Cutting) → take (length (x .buckets)) list ≡ x .buckets → length (x .buckets) ≤ length list
+    → (room : ℕ) → length bs ≤ room → writePlan room (record { periods = x .periods; buckets = length (x .buckets); cost = x .cost }) list ≡ figures bs
 
 rules-write : (bs : List ℕ) → Bytes bs → PlanRules bs → Writes (recordedIn bs) bs
-rules-write bs h r runs rates depths same lists room l =
+rules-write bs h r list same fits room l =
     let T = numberAt 4 bs 4 in
     let xs = bucketsIn bs in
     let n : length xs ≡ numberAt 4 bs 8 = length-items (recordAt bs) 12 (numberAt 4 bs 8) bucketsOffset in
-    let e : planBytes T (numberAt 8 bs costOffset) (recordsOf (length xs) runs rates depths) ≡ bs = ap (planBytes T (numberAt 8 bs costOffset)) same ∙ bytes-read bs h r in
-    write-figures room _ runs rates depths
-    (counts-ok T (length xs) (subst (CountsRange T) (sym n) (r .counts))) (le-leb _ _ (r .cost)) (le-leb _ _ lists)
+    let e : planBytes T (numberAt 8 bs costOffset) (take (length xs) list) ≡ bs = ap (planBytes T (numberAt 8 bs costOffset)) same ∙ bytes-read bs h r in
+    write-figures (length list) room _ (take (length xs) list)
+    (counts-ok T (length xs) (subst (CountsRange T) (sym n) (r .counts))) (le-leb _ _ (r .cost)) (le-leb _ _ fits)
     (records-ok T _ (subst (RecordsRange T) (sym same) (r .records))) (le-leb (planLength (length xs)) room (omega (arith, n, r .placed .bytes)))
     ∙ ap figures e
 
@@ -185,27 +189,3 @@ pub read-write : (bs : List ℕ) → Bytes bs → (x : Recorded) → planIn bs �
 read-write bs h x e =
     let r = read-rules bs x e in
     subst (λ (y : Recorded). Writes y bs) (sym (r .1)) (rules-write bs h (r .0))
-
--- The lists that reading a plan has filled hold its records.
-figure-held : (figure : BucketRecord → ℕ) (xs : Cutting) (old : List ℕ) (i : ℕ) → figure noRecord ≡ 0 → i < length xs
-    → getD (recorded figure (figures xs) old) i 0 ≡ figure (getD xs i noRecord)
-figure-held figure xs old i z l =
-    List·getD-append (map figure xs) _ 0 i (omega (arith, length-map xs figure))
-    ∙ ap (getD (map figure xs) i) (sym z)
-    ∙ List·getD-map figure xs i noRecord
-
-module _ (xs : Cutting) (runs rates depths : List ℕ) where
-  abbrev held : ℕ → BucketRecord
-  held = listed (recorded runLength (figures xs) runs) (recorded runRate (figures xs) rates) (recorded runDepth (figures xs) depths)
-
-  record-held : (i : ℕ) → i < length xs → held i ≡ getD xs i noRecord
-  record-held i l = rw (figure-held runLength xs runs i refl l, figure-held runRate xs rates i refl l, figure-held runDepth xs depths i refl l) refl
-
-  pub lists-hold : recordsOf (length xs) (recorded runLength (figures xs) runs) (recorded runRate (figures xs) rates) (recorded runDepth (figures xs) depths) ≡ xs
-  lists-hold =
-      let n = length-items held 1 (length xs) 0 in
-      ext-getD noRecord (itemsAt held 1 (length xs) 0) xs n
-      (λ i l.
-      let m : i < length xs = omega (arith, n) in
-      let e : 0 + 1 * i ≡ i = omega arith in
-      item-at held 1 (length xs) 0 i noRecord m ∙ ap held e ∙ record-held i m)

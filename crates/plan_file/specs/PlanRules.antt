@@ -13,9 +13,7 @@ use Rattle.terms.specs.declared.BucketRecord.{BucketRecord}
 use Rattle.terms.specs.Answer.{Answer, figures, refused, weigh}
 use Rattle.terms.specs.AnswerLaws.{same-figures, weigh-figures, on-figures, then-figures, then-refused}
 use Rattle.terms.specs.Bools.{and-three, both-and}
-use Rattle.terms.specs.Limits.{costLimit}
-use Rattle.terms.specs.Lent.{recorded, roomOf}
-use Rattle.terms.specs.LentLaws.{Lists, lists-kept, rooms}
+use Rattle.terms.specs.Limits.{costLimit, traceLimit}
 use Rattle.terms.specs.Ranges.{periodsOk}
 use Rattle.terms.specs.Records.{Cutting, runLength, runRate, runDepth}
 use Rattle.terms.specs.RangeLaws.{PeriodsRange, periods-range, periods-ok}
@@ -25,8 +23,10 @@ use Rattle.encoding.specs.NumberLaws.{length-items, length-bytes, length-all}
 use Rattle.encoding.specs.Header.{placedAs}
 use Rattle.encoding.specs.HeaderLaws.{Placed, placed-range, placed-ok}
 use Rattle.encoding.specs.StoreLaws.{sets-front}
+use Rattle.record_list.specs.ListLaws.{lists-kept, rooms}
+use Rattle.record_list.specs.Lists.{RecordLists, Filled, recorded, roomOf}
 use Rattle.plan_file.specs.RecordLaws.{RecordsRange, records-range, records-ok}
-use Rattle.plan_file.specs.Plan.{Recorded, planKind, costOffset, bucketsOffset, planLength, planBytes, countsOk, recordsOk, recordsIn, planIn, fitting, readPlan, figuresOf, bucketsOf, listed, recordsOf, planWords, recordBytes, writePlan}
+use Rattle.plan_file.specs.Plan.{Recorded, planKind, costOffset, bucketsOffset, planLength, planBytes, countsOk, recordsOk, recordsIn, planIn, fitting, readPlan, figuresOf, bucketsOf, planWords, recordBytes, planFile}
 
 -- T and k in their ranges, as orders of numbers.
 pub record CountsRange (T k : ℕ) : Type 0 where
@@ -151,115 +151,118 @@ is-plan bs y e =
     sym (length-items _ 12 (numberAt 4 bs 8) bucketsOffset) ∙ ap (λ (x : Recorded). length (x .buckets)) (sym (r .1)) ∙ ap (λ (z : PlanFigures). z .buckets) (f .2) in
     record { is-read = f .1 ∙ ap figures (r .1); is-count = n; bytes = r .0 .placed .bytes ∙ ap planLength n }
 
--- A plan that is read fits lists that have room for its records.
+-- It has no more buckets than the longest trace has periods.
+pub plan-few : (bs : List ℕ) (y : PlanFigures) → figures y ≡ figuresOf (planIn bs) → y .buckets ≤ traceLimit
+plan-few bs y e =
+    let f = on-figures (λ x. record { periods = x .periods; buckets = length (x .buckets); cost = x .cost }) (planIn bs) (sym e) in
+    let c = read-rules bs (f .0) (f .1) .0 .counts in
+    omega (arith, is-plan bs y e .is-count, c .few, c .periods .few)
+
+-- A plan that is read fits a list that has room for its records.
 pub read-fits : (room : ℕ) (bs : List ℕ) (x : Recorded) → planIn bs ≡ figures x → length (x .buckets) ≤ room → readPlan room bs ≡ figures x
 read-fits room bs x e l = sym (then-figures (planIn bs) (fitting room) e) ∙ ap (λ (ok : Bool). weigh ok 6 (figures x)) (le-leb _ _ l)
 
-module _ (bs runs rates depths : List ℕ) where
-  abbrev room : ℕ
-  room = roomOf runs rates depths
+module _ (bs : List ℕ) (room : ℕ) (old : RecordLists) where
+  -- What is answered, and what the lists hold.
+  abbrev pub Result : Answer PlanFigures → RecordLists → Type 0
+  Result r new = (r ≡ figuresOf (readPlan room bs)) × Filled (bucketsOf (readPlan room bs)) old new
 
-  -- What is answered, and what the lists hold that held runs, rates and depths.
-  abbrev pub Result : Answer PlanFigures → List ℕ → List ℕ → List ℕ → Type 0
-  Result r runs′ rates′ depths′ = (r ≡ figuresOf (readPlan room bs)) × Lists runs rates depths runs′ rates′ depths′ (bucketsOf (readPlan room bs))
-
-  pub read-refused : (r : Answer PlanFigures) (n : ℕ) → r ≡ figuresOf (planIn bs) → planIn bs ≡ refused n → Result r runs rates depths
+  pub read-refused : (r : Answer PlanFigures) (n : ℕ) → r ≡ figuresOf (planIn bs) → planIn bs ≡ refused n → Result r old
   read-refused r n e f =
       let g : readPlan room bs ≡ refused n = sym (then-refused (planIn bs) (fitting room) f) in
-      (e ∙ ap figuresOf (f ∙ sym g), lists-kept runs rates depths _ n (ap bucketsOf g))
+      (e ∙ ap figuresOf (f ∙ sym g), lists-kept _ old n (ap bucketsOf g))
 
   module _ (y : PlanFigures) (p : IsPlan bs y) where
     count : length (bucketsIn bs) ≡ y .buckets
     count = length-items _ 12 (numberAt 4 bs 8) bucketsOffset ∙ p .is-count
 
-    pub read-full : leb (y .buckets) room ≡ false → Result (refused 6) runs rates depths
+    pub read-full : leb (y .buckets) room ≡ false → Result (refused 6) old
     read-full h =
         let k : leb (length (bucketsIn bs)) room ≡ false = ap (λ (n : ℕ). leb n room) count ∙ h in
         let g : readPlan room bs ≡ refused 6 = sym (then-figures (planIn bs) (fitting room) (p .is-read)) ∙ ap (λ (ok : Bool). weigh ok 6 (figures (recordedIn bs))) k in
-        (sym (ap figuresOf g), lists-kept runs rates depths _ 6 (ap bucketsOf g))
+        (sym (ap figuresOf g), lists-kept _ old 6 (ap bucketsOf g))
 
     module _ (h : leb (y .buckets) room ≡ true) where
       -- one figure of each record, stored at the front
       abbrev stored : (BucketRecord → ℕ) → List ℕ → List ℕ
-      stored figure old = sets old 0 (map figure (recordsIn (y .buckets) bs))
+      stored figure xs = sets xs 0 (map figure (recordsIn (y .buckets) bs))
 
       fits : readPlan room bs ≡ figures (recordedIn bs)
       fits = read-fits room bs (recordedIn bs) (p .is-read) (omega (arith, count, leb-true (y .buckets) room h))
 
-      loaded : (figure : BucketRecord → ℕ) (old new : List ℕ) → y .buckets ≤ length old → new ≡ stored figure old
-          → new ≡ recorded figure (bucketsOf (readPlan room bs)) old
-      loaded figure old new l e =
+      loaded : (figure : BucketRecord → ℕ) (xs ys : List ℕ) → y .buckets ≤ length xs → ys ≡ stored figure xs
+          → ys ≡ recorded figure (bucketsOf (readPlan room bs)) xs
+      loaded figure xs ys l e =
           e
-          ∙ ap (λ (n : ℕ). sets old 0 (map figure (recordsIn n bs))) (sym (p .is-count))
-          ∙ sets-front (map figure (bucketsIn bs)) old (omega (arith, length-map (bucketsIn bs) figure, count))
-          ∙ ap (λ (a : Answer Recorded). recorded figure (bucketsOf a) old) (sym fits)
+          ∙ ap (λ (n : ℕ). sets xs 0 (map figure (recordsIn n bs))) (sym (p .is-count))
+          ∙ sets-front (map figure (bucketsIn bs)) xs (omega (arith, length-map (bucketsIn bs) figure, count))
+          ∙ ap (λ (a : Answer Recorded). recorded figure (bucketsOf a) xs) (sym fits)
 
-      pub read-loaded : (runs′ rates′ depths′ : List ℕ) → figures y ≡ figuresOf (planIn bs)
-          → (runs′ ≡ stored runLength runs) × ((rates′ ≡ stored runRate rates) × (depths′ ≡ stored runDepth depths))
-          → Result (figures y) runs′ rates′ depths′
-      read-loaded runs′ rates′ depths′ e s =
-          let l = rooms (y .buckets) runs rates depths (leb-true _ _ h) in
-          let runs-are = loaded runLength runs runs′ (l .first) (s .0) in
-          let rates-are = loaded runRate rates rates′ (l .second) (s .1 .0) in
-          let depths-are = loaded runDepth depths depths′ (l .third) (s .1 .1) in
+      pub read-loaded : (new : RecordLists) → y .buckets ≤ roomOf (old .runs) (old .rates) (old .depths) → figures y ≡ figuresOf (planIn bs)
+          → (new .runs ≡ stored runLength (old .runs)) × ((new .rates ≡ stored runRate (old .rates)) × (new .depths ≡ stored runDepth (old .depths)))
+          → Result (figures y) new
+      read-loaded new m e s =
+          let l = rooms (y .buckets) (old .runs) (old .rates) (old .depths) m in
+          let runs-are = loaded runLength (old .runs) (new .runs) (l .first) (s .0) in
+          let rates-are = loaded runRate (old .rates) (new .rates) (l .second) (s .1 .0) in
+          let depths-are = loaded runDepth (old .depths) (new .depths) (l .third) (s .1 .1) in
           (e ∙ ap figuresOf (p .is-read ∙ sym fits), (runs-are, (rates-are, depths-are)))
 
 -- ---- Writing, rule by rule
 
-module _ (room : ℕ) (x : PlanFigures) (runs rates depths : List ℕ) where
+module _ (space room : ℕ) (x : PlanFigures) (xs : Cutting) where
   abbrev this : Answer (List ℕ)
-  this = writePlan room x runs rates depths
+  this = planFile space room x xs
 
   pub write-periods : countsOk (x .periods) (x .buckets) ≡ false → this ≡ refused 3
-  unfolding writePlan
+  unfolding planFile
   write-periods h = rw h
 
   module _ (counts : countsOk (x .periods) (x .buckets) ≡ true) where
     pub write-cost : leb (x .cost) costLimit ≡ false → this ≡ refused 5
-    unfolding writePlan
+    unfolding planFile
     write-cost h = rw (counts, h)
 
     module _ (cost : leb (x .cost) costLimit ≡ true) where
-      pub write-lists : leb (x .buckets) (roomOf runs rates depths) ≡ false → this ≡ refused 6
-      unfolding writePlan
-      write-lists h = rw (counts, cost, h)
+      pub write-list : leb (x .buckets) space ≡ false → this ≡ refused 6
+      unfolding planFile
+      write-list h = rw (counts, cost, h)
 
-      module _ (lists : leb (x .buckets) (roomOf runs rates depths) ≡ true) where
-        pub write-records : recordsOk (x .periods) (recordsOf (x .buckets) runs rates depths) ≡ false → this ≡ refused 5
-        unfolding writePlan
-        write-records h = rw (counts, cost, lists, h)
+      module _ (list : leb (x .buckets) space ≡ true) where
+        pub write-records : recordsOk (x .periods) xs ≡ false → this ≡ refused 5
+        unfolding planFile
+        write-records h = rw (counts, cost, list, h)
 
-        module _ (records : recordsOk (x .periods) (recordsOf (x .buckets) runs rates depths) ≡ true) where
+        module _ (records : recordsOk (x .periods) xs ≡ true) where
           pub write-room : leb (planLength (x .buckets)) room ≡ false → this ≡ refused 6
-          unfolding writePlan
-          write-room h = rw (counts, cost, lists, records, h)
+          unfolding planFile
+          write-room h = rw (counts, cost, list, records, h)
 
-          pub write-figures : leb (planLength (x .buckets)) room ≡ true → this ≡ figures (planBytes (x .periods) (x .cost) (recordsOf (x .buckets) runs rates depths))
-          unfolding writePlan
-          write-figures h = rw (counts, cost, lists, records, h) refl
+          pub write-figures : leb (planLength (x .buckets)) room ≡ true → this ≡ figures (planBytes (x .periods) (x .cost) xs)
+          unfolding planFile
+          write-figures h = rw (counts, cost, list, records, h) refl
 
 -- What is known of a plan that is written.
-pub record WriteRules (room : ℕ) (x : PlanFigures) (runs rates depths bs : List ℕ) : Type 0 where
+pub record WriteRules (space room : ℕ) (x : PlanFigures) (xs : Cutting) (bs : List ℕ) : Type 0 where
   pub counts : CountsRange (x .periods) (x .buckets)
   pub cost : x .cost ≤ costLimit
-  pub lists : x .buckets ≤ roomOf runs rates depths
-  pub records : RecordsRange (x .periods) (recordsOf (x .buckets) runs rates depths)
+  pub list : x .buckets ≤ space
+  pub records : RecordsRange (x .periods) xs
   pub bytes : planLength (x .buckets) ≤ room
-  pub is : planBytes (x .periods) (x .cost) (recordsOf (x .buckets) runs rates depths) ≡ bs
+  pub is : planBytes (x .periods) (x .cost) xs ≡ bs
 
-pub write-rules : (room : ℕ) (x : PlanFigures) (runs rates depths bs : List ℕ) → writePlan room x runs rates depths ≡ figures bs → WriteRules room x runs rates depths bs
-unfolding writePlan
-write-rules room x runs rates depths bs e =
-    let xs = recordsOf (x .buckets) runs rates depths in
+pub write-rules : (space room : ℕ) (x : PlanFigures) (xs : Cutting) (bs : List ℕ) → planFile space room x xs ≡ figures bs → WriteRules space room x xs bs
+unfolding planFile
+write-rules space room x xs bs e =
     let a = weigh-figures (countsOk (x .periods) (x .buckets)) 3 _ e in
     let b = weigh-figures (leb (x .cost) costLimit) 5 _ (a .1) in
-    let c = weigh-figures (leb (x .buckets) (roomOf runs rates depths)) 6 _ (b .1) in
+    let c = weigh-figures (leb (x .buckets) space) 6 _ (b .1) in
     let d = weigh-figures (recordsOk (x .periods) xs) 5 _ (c .1) in
     let f = weigh-figures (leb (planLength (x .buckets)) room) 6 _ (d .1) in
     record {
       counts = counts-range (x .periods) (x .buckets) (a .0);
       cost = leb-true _ _ (b .0);
-      lists = leb-true _ _ (c .0);
+      list = leb-true _ _ (c .0);
       records = records-range (x .periods) xs (d .0);
       bytes = leb-true _ _ (f .0);
       is = same-figures (f .1);
@@ -279,6 +282,3 @@ pub length-plan : (T cost : ℕ) (xs : Cutting) → length (planBytes T cost xs)
 length-plan T cost xs =
     length-append (bytesOfAll (bytesOf 4) (planWords T (length xs)) ++ bytesOf 8 cost) (bytesOfAll recordBytes xs)
     ∙ ap₂ (λ (m n : ℕ). m + n) (length-head T (length xs) cost) (length-all recordBytes 12 length-record xs)
-
-pub length-records : (k : ℕ) (runs rates depths : List ℕ) → length (recordsOf k runs rates depths) ≡ k
-length-records k runs rates depths = length-items (listed runs rates depths) 1 k 0

@@ -17,15 +17,12 @@ use Rattle.terms.specs.Records.{Cutting, runLength, total}
 use Rattle.plan_file.specs.declared.records.Tally.{Tally}
 use Rattle.encoding.specs.Number.{itemsAt}
 use Rattle.encoding.specs.StoreLaws.{items-next, items-none}
-use Rattle.plan_file.specs.Plan.{allOk, recordOf, recordsOk}
+use Rattle.record_list.specs.ListLaws.{noRecord}
+use Rattle.plan_file.specs.Plan.{allOk, recordsOk}
 
 -- The greatest number of 4 bytes.
 abbrev pub wordLimit : ℕ
 wordLimit = 4294967295
-
--- Stands past the end of a list of records.
-abbrev pub noRecord : BucketRecord
-noRecord = recordOf 0 0 0
 
 -- The records of a plan of T periods in their ranges: each in its own, and the run lengths sum to T.
 pub record RecordsRange (T : ℕ) (xs : Cutting) : Type 0 where

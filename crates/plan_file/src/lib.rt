@@ -1,5 +1,6 @@
 // The plan file, read and written. A writer fills the front of the lent bytes; a refusal changes
 // nothing that is lent.
+pub mod lists;
 mod plans;
 mod records;
 

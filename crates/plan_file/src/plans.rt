@@ -1,34 +1,20 @@
-// The plan file: read and written.
-use crate::records::load_records;
-use crate::records::put_records;
-use crate::records::records_in_file;
-use crate::records::records_in_lists;
+// The plan file, read into a lent list of bucket records and written from one.
+use crate::lists::read_lists;
+use crate::lists::write_lists;
 use encoding::FillAnswer;
-use encoding::headers::placed;
-use encoding::numbers::number_at;
-use encoding::numbers::put_number;
-use encoding::numbers::put_words;
-use encoding::numbers::word_at;
+use record_list::copies::load_records;
+use record_list::copies::store_records;
+use terms::BucketRecord;
 use terms::Refusal;
-use terms::limits::COST_LIMIT;
-use terms::periods_in_range;
-ghost use Prim.Native.Nat.{_≤_};
+use terms::limits::TRACE_LIMIT;
+use terms::numbers::shorter;
 ghost use mathlib.Core.Path.{_≡_};
-ghost use mathlib.Core.List.{_++_};
 ghost use lib.ListN.{length};
-ghost use lib.Seq.{sets};
 ghost use Rattle.terms.specs.Answer.{onFigures};
-ghost use Rattle.terms.specs.Lent.{filled, recorded};
-ghost use Rattle.terms.specs.Records.{runDepth, runLength, runRate};
+ghost use Rattle.terms.specs.Lent.{filled};
 ghost use Rattle.encoding.specs.Fill.{fillSays};
-ghost use Rattle.encoding.specs.Number.{bytesOf, bytesOfAll};
-ghost use Rattle.plan_file.specs.Plan.{bucketsOf, countsOk, figuresOf, planIn, planSays, planWords, readInto, writePlan};
-
-const PLAN_KIND: u32 = 2;
-
-const COST_OFFSET: usize = 24;
-
-pub const BUCKETS_OFFSET: usize = 32;
+ghost use Rattle.plan_file.specs.CallLaws.{countIn, loadCount};
+ghost use Rattle.plan_file.specs.Plan.{bucketsOf, figuresOf, planSays, readPlan, writePlan};
 
 // What a plan holds beside its bucket records: T, the number of buckets and the cost.
 pub struct PlanFigures {
@@ -42,123 +28,51 @@ pub enum PlanAnswer {
     Refused(Refusal),
 }
 
-// Reads a plan from any bytes: T, the number of buckets and the cost; the run lengths, rates and
-// depths fill the front of the lent lists. Or refusal 1 to 5, or 6 (a list with fewer entries than
-// buckets), and the lists are as they were.
-pub fn read_plan(
-    bytes: &[u8],
-    runs: &mut [u32],
-    rates: &mut [u32],
-    depths: &mut [u32],
-) -> PlanAnswer
-    ensures { λ r. ⌜ planSays r ≡ figuresOf (readInto (now (bytes .entry)) (now (runs .entry)) (now (rates .entry)) (now (depths .entry))) ⌝ }
-    ensures { λ _. ⌜ now (runs .exit) ≡ recorded runLength (bucketsOf (readInto (now (bytes .entry)) (now (runs .entry)) (now (rates .entry)) (now (depths .entry)))) (now (runs .entry)) ⌝ }
-    ensures { λ _. ⌜ now (rates .exit) ≡ recorded runRate (bucketsOf (readInto (now (bytes .entry)) (now (runs .entry)) (now (rates .entry)) (now (depths .entry)))) (now (rates .entry)) ⌝ }
-    ensures { λ _. ⌜ now (depths .exit) ≡ recorded runDepth (bucketsOf (readInto (now (bytes .entry)) (now (runs .entry)) (now (rates .entry)) (now (depths .entry)))) (now (depths .entry)) ⌝ }
+// Reads a plan from any bytes: T, the number of buckets and the cost; its records fill the front of
+// the lent list. Or refusal 1 to 5, or 6 (a list with fewer entries than buckets), and the list is
+// as it was.
+pub fn read_plan(bytes: &[u8], list: &mut [BucketRecord]) -> PlanAnswer
+    ensures { λ r. ⌜ (planSays r ≡ figuresOf (readPlan (length (now (list .entry))) (now (bytes .entry))))
+        × (now (list .exit) ≡ filled (bucketsOf (readPlan (length (now (list .entry))) (now (bytes .entry)))) (now (list .entry))) ⌝ }
 {
-    let answer = plan_in(bytes);
-    let PlanAnswer::Read(plan) = answer else {
-        return answer;
-    };
+    let mut runs = [0u32; TRACE_LIMIT];
+    let mut rates = [0u32; TRACE_LIMIT];
+    let mut depths = [0u32; TRACE_LIMIT];
+    let answer = read_lists(bytes, list.len(), &mut runs, &mut rates, &mut depths);
+    let count = buckets_of(answer);
+    store_records(list, &runs, &rates, &depths, count);
+    answer
+}
+
+// The number of buckets; none on a refusal.
+fn buckets_of(answer: PlanAnswer) -> usize
+    ensures { λ r. ⌜ r ≡ countIn (planSays answer) ⌝ }
+{
+    match answer {
+        PlanAnswer::Read(plan) => plan.buckets as usize,
+        PlanAnswer::Refused(_) => 0,
+    }
+}
+
+// Writes a plan into the front of the bytes, its records from the front of the list, and answers its
+// length; or refusal 3, 5 or 6 (a list with fewer entries than buckets, whose records are then not
+// weighed, or bytes fewer than the file), and the bytes are as they were.
+pub fn write_plan(plan: PlanFigures, list: &[BucketRecord], bytes: &mut [u8]) -> FillAnswer
+    ensures { λ r. ⌜ (fillSays r ≡ onFigures length (writePlan (length (now (bytes .entry))) plan (now (list .entry))))
+        × (now (bytes .exit) ≡ filled (writePlan (length (now (bytes .entry))) plan (now (list .entry))) (now (bytes .entry))) ⌝ }
+{
+    let mut runs = [0u32; TRACE_LIMIT];
+    let mut rates = [0u32; TRACE_LIMIT];
+    let mut depths = [0u32; TRACE_LIMIT];
+    let count = load_count(plan, list.len());
+    load_records(list, &mut runs, &mut rates, &mut depths, count);
+    write_lists(plan, list.len(), &runs, &rates, &depths, bytes)
+}
+
+// The records to be loaded: as many as buckets, but no more than the list or the longest plan has.
+fn load_count(plan: PlanFigures, room: usize) -> usize
+    ensures { λ r. ⌜ r ≡ loadCount (plan .buckets) room ⌝ }
+{
     let buckets = plan.buckets as usize;
-    let room = (buckets <= runs.len()) & (buckets <= rates.len()) & (buckets <= depths.len());
-    if !room {
-        return PlanAnswer::Refused(Refusal::List);
-    }
-    load_records(bytes, buckets, runs, rates, depths);
-    PlanAnswer::Read(plan)
-}
-
-// Weighs all that a plan file holds: its figures, or refusal 1 to 5.
-fn plan_in(bytes: &[u8]) -> PlanAnswer
-    ensures { λ r. ⌜ planSays r ≡ figuresOf (planIn (now (bytes .entry))) ⌝ }
-{
-    if bytes.len() < COST_OFFSET {
-        return PlanAnswer::Refused(Refusal::Short);
-    }
-    if word_at(bytes, 0) != PLAN_KIND {
-        return PlanAnswer::Refused(Refusal::Foreign);
-    }
-    let periods = word_at(bytes, 4);
-    let buckets = word_at(bytes, 8);
-    if !counts_in_range(periods, buckets) {
-        return PlanAnswer::Refused(Refusal::Periods);
-    }
-    let length = BUCKETS_OFFSET + 12 * buckets as usize;
-    if !placed(bytes, 12, COST_OFFSET, BUCKETS_OFFSET, length) {
-        return PlanAnswer::Refused(Refusal::Misplaced);
-    }
-    let cost = number_at(bytes, COST_OFFSET, 8);
-    if COST_LIMIT < cost {
-        return PlanAnswer::Refused(Refusal::Figure);
-    }
-    if !records_in_file(bytes, periods, buckets as usize) {
-        return PlanAnswer::Refused(Refusal::Figure);
-    }
-    PlanAnswer::Read(PlanFigures {
-        periods,
-        buckets,
-        cost,
-    })
-}
-
-// Whether T is 1 to 512 and the number of buckets 1 to T.
-fn counts_in_range(periods: u32, buckets: u32) -> bool
-    ensures { λ r. ⌜ r ≡ countsOk periods buckets ⌝ }
-{
-    periods_in_range(periods as usize) & (1 <= buckets) & (buckets <= periods)
-}
-
-// Writes a plan into the front of the bytes, its records from the front of the lists, and answers
-// its length; or refusal 3, 5 or 6 (a list with fewer entries than buckets, whose records are then
-// not weighed, or bytes fewer than the file), and the bytes are as they were.
-pub fn write_plan(
-    plan: PlanFigures,
-    runs: &[u32],
-    rates: &[u32],
-    depths: &[u32],
-    bytes: &mut [u8],
-) -> FillAnswer
-    ensures { λ r. ⌜ fillSays r ≡ onFigures length (writePlan (length (now (bytes .entry))) plan (now (runs .entry)) (now (rates .entry)) (now (depths .entry))) ⌝ }
-    ensures { λ _. ⌜ now (bytes .exit) ≡ filled (writePlan (length (now (bytes .entry))) plan (now (runs .entry)) (now (rates .entry)) (now (depths .entry))) (now (bytes .entry)) ⌝ }
-{
-    if !counts_in_range(plan.periods, plan.buckets) {
-        return FillAnswer::Refused(Refusal::Periods);
-    }
-    if COST_LIMIT < plan.cost {
-        return FillAnswer::Refused(Refusal::Figure);
-    }
-    let buckets = plan.buckets as usize;
-    let room = (buckets <= runs.len()) & (buckets <= rates.len()) & (buckets <= depths.len());
-    if !room {
-        return FillAnswer::Refused(Refusal::List);
-    }
-    if !records_in_lists(plan.periods, buckets, runs, rates, depths) {
-        return FillAnswer::Refused(Refusal::Figure);
-    }
-    let length = BUCKETS_OFFSET + 12 * buckets;
-    if bytes.len() < length {
-        return FillAnswer::Refused(Refusal::List);
-    }
-    put_header(bytes, plan);
-    put_records(bytes, BUCKETS_OFFSET, buckets, runs, rates, depths);
-    FillAnswer::Filled(length)
-}
-
-// Stores what comes before the records.
-fn put_header(bytes: &mut [u8], plan: PlanFigures)
-    requires { ⌜ 32 ≤ length (now bytes) ⌝ }
-    requires { ⌜ plan .buckets ≤ 512 ⌝ }
-    ensures { λ _. ⌜ now (bytes .exit) ≡ sets (now (bytes .entry)) 0 (bytesOfAll (bytesOf 4) (planWords (plan .periods) (plan .buckets)) ++ bytesOf 8 (plan .cost)) ⌝ }
-{
-    let words = [
-        PLAN_KIND,
-        plan.periods,
-        plan.buckets,
-        COST_OFFSET as u32,
-        BUCKETS_OFFSET as u32,
-        BUCKETS_OFFSET as u32 + 12 * plan.buckets,
-    ];
-    put_words(bytes, 0, &words);
-    put_number(bytes, COST_OFFSET, 8, plan.cost);
+    shorter(shorter(buckets, room), TRACE_LIMIT)
 }

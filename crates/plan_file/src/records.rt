@@ -1,8 +1,9 @@
 // The bucket records of a plan, in a file and in lists. Public only for this crate's calls, which
 // show what is required.
-use crate::plans::BUCKETS_OFFSET;
+use crate::lists::BUCKETS_OFFSET;
 use encoding::numbers::put_words;
 use encoding::numbers::word_at;
+use record_list::copies::listed_record;
 use terms::Bucket;
 use terms::BucketRecord;
 use terms::Depth;
@@ -15,10 +16,10 @@ ghost use mathlib.Core.List.{map};
 ghost use lib.Dec.{eqb};
 ghost use lib.ListN.{length};
 ghost use lib.Seq.{sets};
-ghost use Rattle.terms.specs.Lent.{roomOf};
-ghost use Rattle.terms.specs.Records.{runDepth, runLength, runRate};
+ghost use Rattle.terms.specs.Records.{recordOf, runDepth, runLength, runRate};
 ghost use Rattle.encoding.specs.Number.{bytesOfAll};
-ghost use Rattle.plan_file.specs.Plan.{planLength, recordAt, recordBytes, recordOf, recordsIn, recordsOf, recordsOk};
+ghost use Rattle.record_list.specs.Lists.{recordsOf, roomOf};
+ghost use Rattle.plan_file.specs.Plan.{planLength, recordAt, recordBytes, recordsIn, recordsOk};
 ghost use Rattle.plan_file.specs.RecordLaws.{pushed, wordLimit};
 
 // The record at a place of a file.
@@ -103,15 +104,15 @@ pub fn records_in_lists(
     let mut tally = Tally { ok: true, sum: 0 };
     let mut i = 0;
     while i < buckets {
-        let x = record_of(runs[i], rates[i], depths[i]);
+        let x = listed_record(runs, rates, depths, i);
         tally = tally.push(x);
         i += 1;
     }
     tally.whole(periods)
 }
 
-// Stores the records of a file from the front of three lists on.
-pub fn load_records(
+// Stores the figures of the records of a file from the front of three lists on.
+pub fn load_figures(
     bytes: &[u8],
     buckets: usize,
     runs: &mut [u32],

@@ -2,42 +2,50 @@
 -- Assumes nothing.
 use Prim.Native.Nat.{ℕ, _≤_}
 use native.Mathlib.Omega.{arith}
-use mathlib.Core.Path.{_≡_, refl, sym, ap, ap₂, _∙_}
+use mathlib.Core.Path.{_≡_, refl, sym, ap, ap₂, subst, _∙_}
 use mathlib.Core.List.{List}
 use lib.ListN.{length, take, length-take}
 use Rattle.terms.specs.Answer.{Answer, figures, refused, onFigures}
 use Rattle.terms.specs.AnswerLaws.{on-figures, on-refused, then-figures, then-refused}
-use Rattle.terms.specs.Lent.{RecordLists, lists, filled, roomIn, withRecords}
-use Rattle.terms.specs.LentLaws.{Filled, filled-front, lists-are}
+use Rattle.terms.specs.Lent.{filled}
+use Rattle.terms.specs.LentLaws.{filled-front}
 use Rattle.terms.specs.Records.{Cutting}
+use Rattle.record_list.specs.ListLaws.{lists-kept}
+use Rattle.record_list.specs.Lists.{RecordLists, Filled}
 use Rattle.series.specs.declared.plans.Plan.{Plan}
 use Rattle.series.specs.Series.{seriesOf}
 use Rattle.series.specs.Series as series
 use Rattle.order_file.specs.declared.orders.Order.{Order}
-use Rattle.order_file.specs.Ordered.{ordered, SpreadsOrder}
+use Rattle.order_file.specs.Ordered.{ordered, spreadFrom, SpreadsOrder}
 use Rattle.order_file.specs.OrderedLaws.{found-order, demands-are, ordered-count, found-spread}
 use Rattle.planning.specs.declared.orders.PlannedOrder.{PlannedOrder}
-use Rattle.planning.specs.Planning.{Planned, planned, plannedRuns, plannedFigures, cuttingOf, PlansOrder}
+use Rattle.planning.specs.Planning.{Planned, planned, plannedRuns, plannedFigures, cuttingOf}
 use Rattle.planning.specs.PlannedLaws.{IsPlanned, is-planned}
 
 -- The plan found with what the order says.
 abbrev pub withOrder : Order → Plan → PlannedOrder
 withOrder o x = record { order = o; plan = x }
 
-module _ (bs demands : List ℕ) (plan : RecordLists) (demands′ : List ℕ) (found : Answer Order) (p : SpreadsOrder bs demands demands′ found) where
-  abbrev these : Answer Planned
-  these = planned (length demands) (roomIn plan) bs
+-- What planning answers for a list of `room` records, and what the list of demands and the lists of figures then hold.
+pub record PlansOrder (bs demands : List ℕ) (room : ℕ) (plan : RecordLists) (demands′ : List ℕ) (plan′ : RecordLists) (answer : Answer PlannedOrder) : Type 0 where
+  pub answers : answer ≡ onFigures plannedFigures (planned (length demands) room bs)
+  pub spreads : demands′ ≡ filled (spreadFrom (length demands) bs) demands
+  pub records : Filled (cuttingOf (planned (length demands) room bs)) plan plan′
 
-  pub planning-refused : (n : ℕ) → found ≡ refused n → PlansOrder bs demands plan demands′ plan (refused n)
+module _ (bs demands : List ℕ) (room : ℕ) (plan : RecordLists) (demands′ : List ℕ) (found : Answer Order) (p : SpreadsOrder bs demands demands′ found) where
+  abbrev these : Answer Planned
+  these = planned (length demands) room bs
+
+  pub planning-refused : (n : ℕ) → found ≡ refused n → PlansOrder bs demands room plan demands′ plan (refused n)
   planning-refused n f =
       let g : ordered (length demands) bs ≡ refused n = on-refused (λ x. x .order) (ordered (length demands) bs) (sym (p .answers) ∙ f) in
       let e : these ≡ refused n = sym (then-refused (ordered (length demands) bs) _ g) in
-      record { answers = sym (ap (onFigures plannedFigures) e); spreads = p .spreads; records = sym (ap (λ (a : Answer Planned). withRecords (cuttingOf a) plan) e) }
+      record { answers = sym (ap (onFigures plannedFigures) e); spreads = p .spreads; records = lists-kept _ plan n (ap cuttingOf e) }
 
   module _ (o : Order) (f : found ≡ figures o) where
     -- the series for the numbers spread
     abbrev answer-for : Answer Cutting
-    answer-for = seriesOf (o .tariff) (roomIn plan) (take (o .periods) demands′)
+    answer-for = seriesOf (o .tariff) room (take (o .periods) demands′)
 
     abbrev runs-as : List ℕ → Cutting → Planned
     runs-as ds xs = record { order = o; demands = ds; cutting = xs }
@@ -45,8 +53,8 @@ module _ (bs demands : List ℕ) (plan : RecordLists) (demands′ : List ℕ) (f
     runs-planned : these ≡ onFigures (runs-as (take (o .periods) demands′)) answer-for
     runs-planned =
         let x = found-order bs demands demands′ found p o f in
-        sym (then-figures (ordered (length demands) bs) (λ z. plannedRuns (z .order) (z .demands) (roomIn plan)) (x .1))
-        ∙ ap₂ (λ (z : Order) (ds : List ℕ). plannedRuns z ds (roomIn plan)) (x .2) (sym (demands-are bs demands demands′ found p o f))
+        sym (then-figures (ordered (length demands) bs) (λ z. plannedRuns (z .order) (z .demands) room) (x .1))
+        ∙ ap₂ (λ (z : Order) (ds : List ℕ). plannedRuns z ds room) (x .2) (sym (demands-are bs demands demands′ found p o f))
 
     plan-answers : (a : Answer Cutting)
         → onFigures (withOrder o) (series.planOf (o .tariff) a) ≡ onFigures plannedFigures (onFigures (runs-as (take (o .periods) demands′)) a)
@@ -57,27 +65,27 @@ module _ (bs demands : List ℕ) (plan : RecordLists) (demands′ : List ℕ) (f
     cutting-is (figures xs) = refl
     cutting-is (refused m) = refl
 
-    pub series-planned : (runs rates depths : List ℕ) (r : Answer Plan) → r ≡ series.planOf (o .tariff) answer-for → Filled answer-for plan (lists runs rates depths)
-        → (answer : Answer PlannedOrder) → answer ≡ onFigures (withOrder o) r → PlansOrder bs demands plan demands′ (lists runs rates depths) answer
-    series-planned runs rates depths r g k answer h =
+    pub series-planned : (plan′ : RecordLists) (r : Answer Plan) → r ≡ series.planOf (o .tariff) answer-for → Filled answer-for plan plan′
+        → (answer : Answer PlannedOrder) → answer ≡ onFigures (withOrder o) r → PlansOrder bs demands room plan demands′ plan′ answer
+    series-planned plan′ r g k answer h =
         record {
           answers = h ∙ ap (onFigures (withOrder o)) g ∙ plan-answers answer-for ∙ ap (onFigures plannedFigures) (sym runs-planned);
           spreads = p .spreads;
-          records = lists-are answer-for plan runs rates depths k ∙ ap (λ (a : Answer Cutting). withRecords a plan) (cutting-is answer-for ∙ ap cuttingOf (sym runs-planned));
+          records = subst (λ (a : Answer Cutting). Filled a plan plan′) (cutting-is answer-for ∙ ap cuttingOf (sym runs-planned)) k;
         }
 
 -- ---- A plan that was found
 
-module _ (bs demands : List ℕ) (plan : RecordLists) (demands′ : List ℕ) (plan′ : RecordLists)
-    (found : Answer PlannedOrder) (p : PlansOrder bs demands plan demands′ plan′ found) (y : PlannedOrder) (f : found ≡ figures y) where
-  pub found-plan : (x : Planned) × (planned (length demands) (roomIn plan) bs ≡ figures x) × (plannedFigures x ≡ y)
-  found-plan = on-figures plannedFigures (planned (length demands) (roomIn plan) bs) (sym (p .answers) ∙ f)
+module _ (bs demands : List ℕ) (room : ℕ) (plan : RecordLists) (demands′ : List ℕ) (plan′ : RecordLists)
+    (found : Answer PlannedOrder) (p : PlansOrder bs demands room plan demands′ plan′ found) (y : PlannedOrder) (f : found ≡ figures y) where
+  pub found-plan : (x : Planned) × (planned (length demands) room bs ≡ figures x) × (plannedFigures x ≡ y)
+  found-plan = on-figures plannedFigures (planned (length demands) room bs) (sym (p .answers) ∙ f)
 
   abbrev pub found-as : Planned
   found-as = found-plan .0
 
-  pub found-is : IsPlanned (length demands) (roomIn plan) bs found-as
-  found-is = is-planned (length demands) (roomIn plan) bs found-as (found-plan .1)
+  pub found-is : IsPlanned (length demands) room bs found-as
+  found-is = is-planned (length demands) room bs found-as (found-plan .1)
 
   periods-is : y .order .periods ≡ length (found-as .demands)
   periods-is =
@@ -97,5 +105,5 @@ module _ (bs demands : List ℕ) (plan : RecordLists) (demands′ : List ℕ) (p
   pub trace-inside : y .order .periods ≤ length demands′
   trace-inside = omega (arith, trace-count, length-take (y .order .periods) demands′)
 
-  pub plan-is : plan′ ≡ withRecords (figures (found-as .cutting)) plan
-  plan-is = p .records ∙ ap (λ (a : Answer Planned). withRecords (cuttingOf a) plan) (found-plan .1)
+  pub plan-is : Filled (figures (found-as .cutting)) plan plan′
+  plan-is = subst (λ (a : Answer Planned). Filled (cuttingOf a) plan plan′) (found-plan .1) (p .records)

@@ -1,16 +1,14 @@
 -- From an order file to the series planned for it, on what is lent (01, "Series": the first calls of demand 3).
 -- Assumes nothing.
 use Prim.Native.Nat.{ℕ}
-use mathlib.Core.Path.{_≡_}
 use mathlib.Core.List.{List}
 use lib.ListN.{length}
 use Rattle.terms.specs.Answer.{Answer, figures, refused, onFigures, andThen}
-use Rattle.terms.specs.Lent.{RecordLists, filled, roomIn, withRecords}
 use Rattle.terms.specs.Records.{Cutting}
 use Rattle.terms.specs.Refusals.{numberOf}
 use Rattle.series.specs.Series.{trueCost, seriesOf}
 use Rattle.order_file.specs.declared.orders.Order.{Order}
-use Rattle.order_file.specs.Ordered.{ordered, spreadFrom}
+use Rattle.order_file.specs.Ordered.{ordered}
 use Rattle.planning.specs.declared.orders.PlannedOrder.{PlannedOrder}
 use Rattle.planning.specs.declared.orders.PlannedAnswer.{PlannedAnswer}
 use Rattle.planning.specs.declared.orders.PlannedAnswer.the-variants.{Found, Refused}
@@ -29,7 +27,7 @@ plannedRuns o ds room = onFigures (λ xs. record { order = o; demands = ds; cutt
 abbrev pub planned : ℕ → ℕ → List ℕ → Answer Planned
 planned space room bs = andThen (ordered space bs) (λ x. plannedRuns (x .order) (x .demands) room)
 
--- ---- What is answered and left
+-- ---- What is answered
 
 -- Each case of the answer in document 01's values and numbers.
 abbrev pub plannedSays : PlannedAnswer → Answer PlannedOrder
@@ -42,9 +40,3 @@ plannedFigures x = record { order = x .order; plan = record { buckets = length (
 
 abbrev pub cuttingOf : Answer Planned → Answer Cutting
 cuttingOf = onFigures (λ x. x .cutting)
-
--- What planning answers, and what the list of demands and the lists of records then hold.
-pub record PlansOrder (bs demands : List ℕ) (plan : RecordLists) (demands′ : List ℕ) (plan′ : RecordLists) (answer : Answer PlannedOrder) : Type 0 where
-  pub answers : answer ≡ onFigures plannedFigures (planned (length demands) (roomIn plan) bs)
-  pub spreads : demands′ ≡ filled (spreadFrom (length demands) bs) demands
-  pub records : plan′ ≡ withRecords (cuttingOf (planned (length demands) (roomIn plan) bs)) plan

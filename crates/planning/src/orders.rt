@@ -1,18 +1,18 @@
-// The calls up to planning, on what a caller lends. Public only for the crates above: after a refusal
-// to plan the demands stay spread.
+// The calls up to planning. Public only for the crates above: after a refusal to plan the demands stay
+// spread.
 use order_file::Order;
 use order_file::OrderAnswer;
 use order_file::spreads::spread_order;
 use series::Plan;
 use series::SeriesAnswer;
-use series::series;
+use series::lists::plan_lists;
 use terms::Refusal;
 ghost use mathlib.Core.Path.{_≡_};
 ghost use Rattle.terms.specs.Answer.{onFigures};
-ghost use Rattle.terms.specs.Lent.{lists};
+ghost use Rattle.record_list.specs.Lists.{Wide, lists};
 ghost use Rattle.series.specs.Series.{seriesSays};
-ghost use Rattle.planning.specs.Planning.{PlansOrder, plannedSays};
-ghost use Rattle.planning.specs.CallLaws.{withOrder};
+ghost use Rattle.planning.specs.Planning.{plannedSays};
+ghost use Rattle.planning.specs.CallLaws.{PlansOrder, withOrder};
 
 // What an order says and the plan found for it.
 pub struct PlannedOrder {
@@ -26,16 +26,19 @@ pub enum PlannedAnswer {
 }
 
 // Reads the order, spreads its trace's part into the demands, and plans the series with the tariff
-// read and the numbers so spread. After a refusal to plan the demands stay spread.
+// read and the numbers so spread, for a list of `room` records, whose figures fill the lists. After a
+// refusal to plan the demands stay spread.
 pub fn plan_order(
     order: &[u8],
     demands: &mut [u16],
+    room: usize,
     runs: &mut [u32],
     rates: &mut [u32],
     depths: &mut [u32],
 ) -> PlannedAnswer
+    requires { ⌜ Wide (now runs) (now rates) (now depths) ⌝ }
     ensures { λ r. ⌜ PlansOrder (now (order .entry))
-        (now (demands .entry)) (lists (now (runs .entry)) (now (rates .entry)) (now (depths .entry)))
+        (now (demands .entry)) room (lists (now (runs .entry)) (now (rates .entry)) (now (depths .entry)))
         (now (demands .exit)) (lists (now (runs .exit)) (now (rates .exit)) (now (depths .exit)))
         (plannedSays r) ⌝ }
 {
@@ -45,7 +48,7 @@ pub fn plan_order(
     };
     let periods = found.periods as usize;
     let tariff = found.tariff;
-    let plan = series(&demands[..periods], tariff, runs, rates, depths);
+    let plan = plan_lists(&demands[..periods], tariff, room, runs, rates, depths);
     with_order(found, plan)
 }
 

@@ -18,7 +18,7 @@ use Rattle.meter.specs.Meter.{meterRun}
 use Rattle.meter.specs.MeterLaws.{Sound}
 use Rattle.encoding.specs.Number.{itemsAt}
 use Rattle.encoding.specs.StoreLaws.{items-next, items-none}
-use Rattle.plan_file.specs.Plan.{listed, recordsOf}
+use Rattle.record_list.specs.Lists.{listed, recordsOf}
 use Rattle.recording.specs.declared.metering.MeterTotals.{MeterTotals}
 use Rattle.recording.specs.declared.metering.TotalsAnswer.{TotalsAnswer}
 use Rattle.recording.specs.declared.metering.TotalsAnswer.the-variants.{Metered, Refused}

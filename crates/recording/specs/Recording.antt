@@ -6,13 +6,12 @@ use lib.Dec.{leb}
 use lib.ListN.{length, take, drop}
 use Rattle.terms.specs.declared.Factor.{Factor}
 use Rattle.terms.specs.Answer.{Answer, figures, refused, weigh, onFigures, andThen}
-use Rattle.terms.specs.Lent.{RecordLists}
 use Rattle.terms.specs.Records.{Cutting, runLength, total}
 use Rattle.terms.specs.Refusals.{numberOf}
 use Rattle.meter.specs.declared.meters.Meter.{Meter}
 use Rattle.meter.specs.Meter.{meterRun}
 use Rattle.plan_file.specs.declared.plans.PlanFigures.{PlanFigures}
-use Rattle.plan_file.specs.Plan.{Recorded, readPlan, writePlan}
+use Rattle.plan_file.specs.Plan.{Recorded, readPlan}
 use Rattle.recording.specs.declared.metering.MeterTotals.{MeterTotals}
 use Rattle.recording.specs.declared.plans.Booking.{Booking}
 use Rattle.recording.specs.declared.plans.BookingAnswer.{BookingAnswer}
@@ -24,10 +23,10 @@ pub record Recording : Type 0 where
   pub plan : Recorded
   pub meters : List Meter
 
--- The plan is written into `room` bytes, from the front of the lists. That its records can be read back into `space` entries is
--- weighed first, so that a refusal comes before anything is written.
-abbrev pub written : ℕ → ℕ → PlanFigures → RecordLists → Answer (List ℕ)
-written space room x l = weigh (leb (x .buckets) space) 6 (writePlan room x (l .runs) (l .rates) (l .depths))
+-- The plan is written; `file` is what writing it gives. That its records can be read back into `space` entries is weighed first,
+-- so that a refusal comes before anything is written.
+abbrev pub written : ℕ → PlanFigures → Answer (List ℕ) → Answer (List ℕ)
+written space x file = weigh (leb (x .buckets) space) 6 file
 
 -- Run by run a meter is opened on the recorded bucket with the factor and is offered the run's demands, first to last.
 unfoldable pub metersOf : Factor → List ℕ → Cutting → Answer (List Meter)
@@ -39,8 +38,8 @@ abbrev pub readBack : ℕ → Factor → List ℕ → List ℕ → Answer Record
 readBack space f ds file = andThen (readPlan space file) (λ y. onFigures (λ ms. record { file = file; plan = y; meters = ms }) (metersOf f ds (y .buckets)))
 
 -- … all of these, one after the other.
-abbrev pub recording : ℕ → ℕ → PlanFigures → RecordLists → Factor → List ℕ → Answer Recording
-recording space room x l f ds = andThen (written space room x l) (λ file. readBack space f ds file)
+abbrev pub recording : ℕ → PlanFigures → Answer (List ℕ) → Factor → List ℕ → Answer Recording
+recording space x file f ds = andThen (written space x file) (readBack space f ds)
 
 -- ---- What is answered
 

@@ -6,14 +6,15 @@ use crate::metering::meter_runs;
 use encoding::FillAnswer;
 use plan_file::PlanAnswer;
 use plan_file::PlanFigures;
-use plan_file::read_plan;
-use plan_file::write_plan;
+use plan_file::lists::read_lists;
+use plan_file::lists::write_lists;
 use terms::Factor;
 use terms::Refusal;
 ghost use mathlib.Core.Path.{_≡_};
 ghost use lib.ListN.{length};
 ghost use Rattle.terms.specs.Answer.{onFigures};
-ghost use Rattle.terms.specs.Lent.{lists};
+ghost use Rattle.record_list.specs.Lists.{Wide, lists, recordsOf};
+ghost use Rattle.plan_file.specs.Plan.{planFile};
 ghost use Rattle.recording.specs.Recording.{bookingSays};
 ghost use Rattle.recording.specs.RecordingLaws.{RecordsPlan, withMeters};
 ghost use Rattle.recording.specs.MeteringLaws.{totalsSays};
@@ -31,38 +32,41 @@ pub enum BookingAnswer {
     Refused(Refusal),
 }
 
-// Writes the plan whose records stand at the front of the lists, reads the front of those bytes
-// back, and meters each run of the trace.
+// Writes the plan from a list of `room` records, whose figures stand in the lists, reads the front of
+// those bytes back for a list of `space` records, and meters each run of the trace.
 pub fn record_plan(
     plan: PlanFigures,
     factor: Factor,
     trace: &[u16],
+    room: usize,
     runs: &[u32],
     rates: &[u32],
     depths: &[u32],
     bytes: &mut [u8],
+    space: usize,
     back_runs: &mut [u32],
     back_rates: &mut [u32],
     back_depths: &mut [u32],
 ) -> BookingAnswer
     requires { ⌜ plan .periods ≡ length (now trace) ⌝ }
-    ensures { λ r. ⌜ RecordsPlan plan factor (now (trace .entry)) (lists (now (runs .entry)) (now (rates .entry)) (now (depths .entry)))
-        (now (bytes .entry)) (lists (now («back_runs» .entry)) (now («back_rates» .entry)) (now («back_depths» .entry)))
+    requires { ⌜ Wide (now runs) (now rates) (now depths) ⌝ }
+    requires { ⌜ Wide (now «back_runs») (now «back_rates») (now «back_depths») ⌝ }
+    ensures { λ r. ⌜ RecordsPlan plan
+        (planFile room (length (now (bytes .entry))) plan (recordsOf (plan .buckets) (now (runs .entry)) (now (rates .entry)) (now (depths .entry))))
+        factor (now (trace .entry)) (now (bytes .entry))
+        space (lists (now («back_runs» .entry)) (now («back_rates» .entry)) (now («back_depths» .entry)))
         (now (bytes .exit)) (lists (now («back_runs» .exit)) (now («back_rates» .exit)) (now («back_depths» .exit)))
         (bookingSays r) ⌝ }
 {
     let buckets = plan.buckets as usize;
-    let room = (buckets <= back_runs.len())
-        & (buckets <= back_rates.len())
-        & (buckets <= back_depths.len());
-    if !room {
+    if space < buckets {
         return BookingAnswer::Refused(Refusal::List);
     }
-    let length = match write_plan(plan, runs, rates, depths, bytes) {
+    let length = match write_lists(plan, room, runs, rates, depths, bytes) {
         FillAnswer::Filled(n) => n,
         FillAnswer::Refused(why) => return BookingAnswer::Refused(why),
     };
-    let recorded = match read_plan(&bytes[..length], back_runs, back_rates, back_depths) {
+    let recorded = match read_lists(&bytes[..length], space, back_runs, back_rates, back_depths) {
         PlanAnswer::Read(x) => x,
         PlanAnswer::Refused(why) => return BookingAnswer::Refused(why),
     };

@@ -1,50 +1,22 @@
-// The three lists of a plan's buckets, which all have one length.
-use crate::number;
+// The list of a plan's buckets.
 use crate::record;
 use crate::words;
 use samples::lists::ENTRIES;
-use samples::lists::Lengths;
 use samples::lists::are_kept;
-use terms::Bucket;
 use terms::BucketRecord;
-use terms::Depth;
-use terms::Rate;
 
-// How many entries are lent of each.
-pub fn lengths(lent: Lengths) {
-    number(lent.runs as u64);
-    number(lent.rates as u64);
-    number(lent.depths as u64);
-}
-
-// The buckets, and whether every entry after them is as it was filled beforehand.
-pub fn lists(
-    runs: &[u32; ENTRIES],
-    rates: &[u32; ENTRIES],
-    depths: &[u32; ENTRIES],
-    buckets: usize,
-) {
-    print_buckets(runs, rates, depths, buckets);
-    kept(are_kept(runs, rates, depths, buckets));
+// The buckets, and whether every record after them is as it was filled beforehand.
+pub fn list(list: [BucketRecord; ENTRIES], buckets: usize) {
+    print_buckets(list, buckets);
+    kept(are_kept(list, buckets));
 }
 
 // The first three buckets and the last.
-fn print_buckets(
-    runs: &[u32; ENTRIES],
-    rates: &[u32; ENTRIES],
-    depths: &[u32; ENTRIES],
-    buckets: usize,
-) {
+fn print_buckets(list: [BucketRecord; ENTRIES], buckets: usize) {
     for i in 0..ENTRIES {
         if (i < buckets) & ((i < 3) | (i + 1 == buckets)) {
             words(b",");
-            record(BucketRecord {
-                periods: runs[i],
-                bucket: Bucket {
-                    rate: Rate(rates[i]),
-                    depth: Depth(depths[i]),
-                },
-            });
+            record(list[i]);
         }
     }
 }

@@ -4,10 +4,10 @@ pub mod Series
 pub mod CuttingLaws
 pub mod RunLaws
 pub mod SeriesLaws
-pub mod LentLaws
 pub mod Outline
 pub mod OutlineRanges
 pub mod PriceLaws
 pub mod OutlineLaws
 pub mod SuffixLaws
 pub mod RecordLaws
+pub mod CallLaws

@@ -13,10 +13,11 @@ use Rattle.terms.specs.declared.Tariff.{Tariff}
 use Rattle.terms.specs.Answer.{Answer, figures, refused}
 use Rattle.terms.specs.Limits.{traceLimit}
 use Rattle.terms.specs.RangeLaws.{PeriodsRange, TariffRange, periods-ok, tariff-ok}
-use Rattle.single.specs.Single.{bucketOf, singleOf}
+use Rattle.single.specs.Single.{singleOf}
 use Rattle.series.specs.RunLaws.{best-runs, best-of-none}
 use Rattle.series.specs.Series.{runCost, recordOf, runRecord, cheapestCut, planOf}
-use Rattle.terms.specs.Lent.{recorded}
+use Rattle.record_list.specs.ListLaws.{noRecord}
+use Rattle.record_list.specs.Lists.{recorded}
 use Rattle.terms.specs.Records.{Cutting, runLength}
 use Rattle.series.specs.SeriesLaws.{record-whole, series-is}
 use Rattle.series.specs.Outline.{unpriced, outlineOf}
@@ -44,10 +45,6 @@ record-single t run h few = rw (periods-ok _ few, tariff-ok t h) refl
 -- A run that has a bucket.
 abbrev pub HasBucket : Tariff → List ℕ → Type 0
 HasBucket t run = (x : BucketRecord) × (runRecord t run ≡ figures x)
-
--- Stands past the end of a list of records.
-abbrev pub noRecord : BucketRecord
-noRecord = record { periods = 0; bucket = bucketOf 0 0 }
 
 -- The run that begins at `start`, all being the cutting and k the records before it.
 pub record NextRun (t : Tariff) (ds : List ℕ) (all : Cutting) (start k : ℕ) (x : BucketRecord) : Type 0 where

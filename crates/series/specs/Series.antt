@@ -13,7 +13,6 @@ use Rattle.terms.specs.Answer.{Answer, figures, refused, weigh, onFigures}
 use Rattle.terms.specs.Refusals.{numberOf}
 use Rattle.terms.specs.Ranges.{periodsOk, tariffOk}
 use Rattle.terms.specs.Records.{Cutting, runLength, total}
-use Rattle.terms.specs.Lent.{roomOf}
 use Rattle.single.specs.declared.costs.Priced.{Priced}
 use Rattle.single.specs.Cost.{costOf}
 use Rattle.single.specs.Single.{Serves, cheapestOf}
@@ -54,17 +53,13 @@ runRecord t run = recordOf (length run) (cheapestOf t run)
 abbrev pub cheapestCut : Tariff → List ℕ → Answer Cutting
 cheapestCut t = best runLength (runCost t) (runRecord t)
 
--- 3: the trace's length; 5: the tariff; 6: lent lists with less room than periods; 7: no cutting.
+-- 3: the trace's length; 5: the tariff; 6: a lent list with fewer entries than periods; 7: no cutting.
 unfoldable pub seriesOf : Tariff → ℕ → List ℕ → Answer Cutting
 seriesOf t room ds = weigh (periodsOk (length ds)) 3 (weigh (tariffOk t) 5 (weigh (leb (length ds) room) 6 (cheapestCut t ds)))
 
 -- The figures that are answered: the number of buckets and the cost.
 abbrev pub planOf : Tariff → Answer Cutting → Answer Plan
 planOf t = onFigures (λ xs. record { buckets = length xs; cost = trueCost t xs })
-
--- The series answer for three lent lists.
-abbrev pub seriesFor : Tariff → List ℕ → List ℕ → List ℕ → List ℕ → Answer Cutting
-seriesFor t ds runs rates depths = seriesOf t (roomOf runs rates depths) ds
 
 -- Each case of the answer in document 01's values and numbers.
 abbrev pub seriesSays : SeriesAnswer → Answer Plan

@@ -1,4 +1,5 @@
 // The cheapest cutting of a trace into runs with a bucket each.
+pub mod lists;
 mod outlines;
 mod plans;
 mod prices;

@@ -1,19 +1,15 @@
 // The series of buckets: the call that planners use.
-use crate::outlines::UNPRICED;
-use crate::records::record_runs;
-use crate::suffixes::ENTRIES;
-use crate::suffixes::cut_suffixes;
+use crate::lists::plan_lists;
+use record_list::copies::store_records;
+use terms::BucketRecord;
 use terms::Refusal;
 use terms::Tariff;
-use terms::periods_in_range;
-use terms::tariff_in_range;
-ghost use Prim.Native.Nat.{_≤_};
+use terms::limits::TRACE_LIMIT;
 ghost use mathlib.Core.Path.{_≡_};
 ghost use lib.ListN.{length};
-ghost use Rattle.terms.specs.RangeLaws.{PeriodsRange, TariffRange};
-ghost use Rattle.series.specs.Series.{cheapestCut, planOf, seriesFor, seriesSays};
-ghost use Rattle.terms.specs.Lent.{recorded, roomOf};
-ghost use Rattle.terms.specs.Records.{runDepth, runLength, runRate};
+ghost use Rattle.terms.specs.Lent.{filled};
+ghost use Rattle.series.specs.CallLaws.{bucketsOf};
+ghost use Rattle.series.specs.Series.{planOf, seriesOf, seriesSays};
 
 // A plan's number of buckets and its cost.
 pub struct Plan {
@@ -28,60 +24,35 @@ pub enum SeriesAnswer {
 }
 
 // Cuts the trace into runs with a bucket each, at the least cost; equal costs go to fewer buckets
-// and then to the longer first run, the longer second and so on. The run lengths, rates and depths
-// fill the front of the lent lists in order. Or refusal 3, 5, 6 (a list with fewer entries than
-// the trace) or 7 (no cutting), and the lists are as they were.
-pub fn series(
-    trace: &[u16],
-    tariff: Tariff,
-    runs: &mut [u32],
-    rates: &mut [u32],
-    depths: &mut [u32],
-) -> SeriesAnswer
-    ensures { λ r. ⌜ seriesSays r ≡ planOf tariff (seriesFor tariff (now (trace .entry)) (now (runs .entry)) (now (rates .entry)) (now (depths .entry))) ⌝ }
-    ensures { λ _. ⌜ now (runs .exit) ≡ recorded runLength (seriesFor tariff (now (trace .entry)) (now (runs .entry)) (now (rates .entry)) (now (depths .entry))) (now (runs .entry)) ⌝ }
-    ensures { λ _. ⌜ now (rates .exit) ≡ recorded runRate (seriesFor tariff (now (trace .entry)) (now (runs .entry)) (now (rates .entry)) (now (depths .entry))) (now (rates .entry)) ⌝ }
-    ensures { λ _. ⌜ now (depths .exit) ≡ recorded runDepth (seriesFor tariff (now (trace .entry)) (now (runs .entry)) (now (rates .entry)) (now (depths .entry))) (now (depths .entry)) ⌝ }
+// and then to the longer first run, the longer second and so on. The buckets' records fill the
+// front of the lent list in order. Or refusal 3, 5, 6 (a list with fewer entries than the trace) or
+// 7 (no cutting), and the list is as it was.
+pub fn series(trace: &[u16], tariff: Tariff, list: &mut [BucketRecord]) -> SeriesAnswer
+    ensures { λ r. ⌜ (seriesSays r ≡ planOf tariff (seriesOf tariff (length (now (list .entry))) (now (trace .entry))))
+        × (now (list .exit) ≡ filled (seriesOf tariff (length (now (list .entry))) (now (trace .entry))) (now (list .entry))) ⌝ }
 {
-    let periods = trace.len();
-    if !periods_in_range(periods) {
-        return SeriesAnswer::Refused(Refusal::Periods);
-    }
-    if !tariff_in_range(tariff) {
-        return SeriesAnswer::Refused(Refusal::Figure);
-    }
-    let room = (periods <= runs.len()) & (periods <= rates.len()) & (periods <= depths.len());
-    if !room {
-        return SeriesAnswer::Refused(Refusal::List);
-    }
-    cheapest(trace, tariff, runs, rates, depths)
+    let mut runs = [0u32; TRACE_LIMIT];
+    let mut rates = [0u32; TRACE_LIMIT];
+    let mut depths = [0u32; TRACE_LIMIT];
+    let answer = plan_lists(
+        trace,
+        tariff,
+        list.len(),
+        &mut runs,
+        &mut rates,
+        &mut depths,
+    );
+    let count = buckets_of(answer);
+    store_records(list, &runs, &rates, &depths, count);
+    answer
 }
 
-// The cheapest cutting, or refusal 7.
-fn cheapest(
-    trace: &[u16],
-    tariff: Tariff,
-    runs: &mut [u32],
-    rates: &mut [u32],
-    depths: &mut [u32],
-) -> SeriesAnswer
-    requires { ⌜ PeriodsRange (length (now trace)) ⌝ }
-    requires { ⌜ TariffRange tariff ⌝ }
-    requires { ⌜ length (now trace) ≤ roomOf (now runs) (now rates) (now depths) ⌝ }
-    ensures { λ r. ⌜ seriesSays r ≡ planOf tariff (cheapestCut tariff (now (trace .entry))) ⌝ }
-    ensures { λ _. ⌜ now (runs .exit) ≡ recorded runLength (cheapestCut tariff (now (trace .entry))) (now (runs .entry)) ⌝ }
-    ensures { λ _. ⌜ now (rates .exit) ≡ recorded runRate (cheapestCut tariff (now (trace .entry))) (now (rates .entry)) ⌝ }
-    ensures { λ _. ⌜ now (depths .exit) ≡ recorded runDepth (cheapestCut tariff (now (trace .entry))) (now (depths .entry)) ⌝ }
+// The number of buckets; none on a refusal.
+fn buckets_of(answer: SeriesAnswer) -> usize
+    ensures { λ r. ⌜ r ≡ bucketsOf (seriesSays answer) ⌝ }
 {
-    let mut costs = [0u64; ENTRIES];
-    let mut counts = [0u32; ENTRIES];
-    let mut firsts = [0u32; ENTRIES];
-    cut_suffixes(trace, tariff, &mut costs, &mut counts, &mut firsts);
-    let buckets = counts[0];
-    let cost = costs[0];
-    if cost == UNPRICED {
-        return SeriesAnswer::Refused(Refusal::NoPlan);
+    match answer {
+        SeriesAnswer::Found(plan) => plan.buckets as usize,
+        SeriesAnswer::Refused(_) => 0,
     }
-    record_runs(trace, tariff, &firsts, runs, rates, depths);
-    SeriesAnswer::Found(Plan { buckets, cost })
 }

@@ -1,4 +1,5 @@
-// The records of the runs. Public only for this crate's call, which shows what is required.
+// The records of the runs. Public only for this crate's calls, which show what is
+// required.
 use single::SingleAnswer;
 use single::single;
 use terms::Bucket;
@@ -12,8 +13,7 @@ ghost use Rattle.terms.specs.Answer.{figures};
 ghost use Rattle.terms.specs.RangeLaws.{PeriodsRange, TariffRange};
 ghost use Rattle.series.specs.RecordLaws.{Firsts, HasBucket};
 ghost use Rattle.series.specs.Series.{cheapestCut, runRecord};
-ghost use Rattle.terms.specs.Lent.{recorded, roomOf};
-ghost use Rattle.terms.specs.Records.{runDepth, runLength, runRate};
+ghost use Rattle.record_list.specs.Lists.{Filled, lists, roomOf};
 
 // Stores each run's length and the single bucket of its own part of the trace, first run to last.
 pub fn record_runs(
@@ -28,9 +28,9 @@ pub fn record_runs(
     requires { ⌜ TariffRange tariff ⌝ }
     requires { ⌜ Firsts tariff (now trace) (now firsts) ⌝ }
     requires { ⌜ length (now trace) ≤ roomOf (now runs) (now rates) (now depths) ⌝ }
-    ensures { λ _. ⌜ now (runs .exit) ≡ recorded runLength (cheapestCut tariff (now (trace .entry))) (now (runs .entry)) ⌝ }
-    ensures { λ _. ⌜ now (rates .exit) ≡ recorded runRate (cheapestCut tariff (now (trace .entry))) (now (rates .entry)) ⌝ }
-    ensures { λ _. ⌜ now (depths .exit) ≡ recorded runDepth (cheapestCut tariff (now (trace .entry))) (now (depths .entry)) ⌝ }
+    ensures { λ _. ⌜ Filled (cheapestCut tariff (now (trace .entry)))
+        (lists (now (runs .entry)) (now (rates .entry)) (now (depths .entry)))
+        (lists (now (runs .exit)) (now (rates .exit)) (now (depths .exit))) ⌝ }
 {
     let mut start = 0;
     let mut k = 0;

@@ -4,16 +4,15 @@ use crate::cuttings::Choice;
 use crate::cuttings::UNPRICED;
 use crate::cuttings::buckets_of;
 use crate::cuttings::preferred;
-use crate::lists::Lists;
-use crate::lists::before;
 use crate::lists::recorded;
-use crate::lists::same_lists;
+use list_calls::series_on;
+use samples::lists::are_same;
+use samples::lists::filled;
 use samples::small::Small;
 use samples::small::demand;
 use samples::small::small_tariff;
 use samples::small::tariff_of;
 use series::SeriesAnswer;
-use series::series;
 
 // Case n: one of the 780 traces of one to four demands, one of the 180 tariffs, and a fee.
 pub fn agrees(n: u32) -> bool {
@@ -59,21 +58,14 @@ fn fee(n: u32) -> u8 {
     }
 }
 
-// Whether the call answers and leaves the lists as the preferred cutting does.
+// Whether the call, lent four records, answers and leaves the list as the preferred cutting does.
 fn agrees_on(trace: &[u16], small: Small) -> bool {
-    let lists = before();
-    let mut runs = lists.runs;
-    let mut rates = lists.rates;
-    let mut depths = lists.depths;
-    let answer = series(trace, tariff_of(small), &mut runs, &mut rates, &mut depths);
+    let lent = series_on(trace, tariff_of(small), filled(), 4);
+    let answer = lent.answer;
+    let list = lent.list;
     let choice = preferred(trace, small);
     let want = recorded(trace, small, choice.cutting);
-    let have = Lists {
-        runs,
-        rates,
-        depths,
-    };
-    same_answer(answer, choice) & same_lists(have, want)
+    same_answer(answer, choice) & are_same(list, want, 0)
 }
 
 // The number of buckets and the cost, or refusal 7 where there is no cutting.

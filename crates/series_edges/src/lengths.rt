@@ -1,8 +1,6 @@
-// Lists of as many entries as periods and of more, and traces of 1 and of 512 periods.
+// A list of as many entries as periods and of more, and traces of 1 and of 512 periods.
 use crate::lists::edge;
 use crate::lists::edge_in;
-use samples::lists::lent;
-use samples::lists::of_each;
 use samples::tariffs::caps_of;
 use samples::tariffs::full;
 use samples::tariffs::prices_of;
@@ -25,34 +23,19 @@ pub fn edges() {
 // Two buckets for three periods, and three with fee 3.
 fn entries() {
     let trace = CASE;
-    edge_in(b"4,8,2 in lists of 3", &trace, printed_case(), of_each(3));
-    edge_in(b"4,8,2 in lists of 6", &trace, printed_case(), of_each(6));
-    edge_in(
-        b"4,8,2 in lists of 3, 4 and 6",
-        &trace,
-        printed_case(),
-        lent(3, 4, 6),
-    );
-    edge_in(
-        b"4,8,2 with fee 3 in lists of 3",
-        &trace,
-        with_fee(3),
-        of_each(3),
-    );
-    edge_in(
-        b"4,8,2 with fee 3 in lists of 6",
-        &trace,
-        with_fee(3),
-        of_each(6),
-    );
+    edge_in(b"4,8,2 in a list of 3", &trace, printed_case(), 3);
+    edge_in(b"4,8,2 in a list of 4", &trace, printed_case(), 4);
+    edge_in(b"4,8,2 in a list of 6", &trace, printed_case(), 6);
+    edge_in(b"4,8,2 with fee 3 in a list of 3", &trace, with_fee(3), 3);
+    edge_in(b"4,8,2 with fee 3 in a list of 6", &trace, with_fee(3), 6);
 }
 
 fn one_period() {
     let none: [u16; 1] = [0];
     let most: [u16; 1] = [65_535];
     let whole = Factor { p: 1, q: 1 };
-    edge_in(b"0", &none, printed_case(), of_each(1));
-    edge_in(b"65535", &most, printed_case(), of_each(1));
+    edge_in(b"0", &none, printed_case(), 1);
+    edge_in(b"65535", &most, printed_case(), 1);
     edge(
         b"65535 full at depth cap 61440",
         &most,
@@ -70,13 +53,8 @@ fn alike() {
     let none = [0u16; 512];
     let few = [3u16; 512];
     let most = [65_535u16; 512];
-    edge_in(b"512 periods of 0", &none, printed_case(), of_each(512));
-    edge_in(
-        b"512 periods of 3 at fee 0",
-        &few,
-        with_fee(0),
-        of_each(512),
-    );
+    edge_in(b"512 periods of 0", &none, printed_case(), 512);
+    edge_in(b"512 periods of 3 at fee 0", &few, with_fee(0), 512);
     edge(b"512 periods of 65535, prices 0", &most, only_fee());
     edge(
         b"512 periods of 65535, prices and fee at their limits",

@@ -1,5 +1,5 @@
 // Prints what the series call answers at the edges of document 01, an edge to a line: the plan
-// with its buckets, or the refusal, and whether the rest of the lent lists is kept.
+// with its buckets, or the refusal, and whether the rest of the lent list is kept.
 mod choices;
 mod lengths;
 mod lists;

@@ -1,8 +1,6 @@
 // Each refusal, and the lowest number where several apply.
 use crate::lists::edge;
 use crate::lists::edge_in;
-use samples::lists::lent;
-use samples::lists::of_each;
 use samples::tariffs::caps_of;
 use samples::tariffs::from_empty;
 use samples::tariffs::printed;
@@ -17,7 +15,7 @@ use terms::Factor;
 pub fn edges() {
     periods();
     figures();
-    short_lists();
+    short_list();
     no_cutting();
 }
 
@@ -28,12 +26,7 @@ fn periods() {
     edge(b"0 periods", &trace[..0], printed_case());
     edge(b"513 periods", &trace, printed_case());
     edge(b"0 periods and q 0", &trace[..0], bad);
-    edge_in(
-        b"513 periods, q 0 and lists of 512",
-        &trace,
-        bad,
-        of_each(512),
-    );
+    edge_in(b"513 periods, q 0 and a list of 512", &trace, bad, 512);
 }
 
 // Each figure of the tariff one past its limit.
@@ -63,18 +56,16 @@ fn capped(name: &[u8], rate: u32, depth: u32) {
     edge(name, &trace, with_caps(rate, depth));
 }
 
-// Lists of one entry less than the trace has periods.
-fn short_lists() {
+// A list of one entry less than the trace has periods.
+fn short_list() {
     let trace = CASE;
     let good = printed_case();
     let bad = with_factor(1, 0);
-    edge_in(b"runs one short", &trace, good, lent(2, 3, 3));
-    edge_in(b"rates one short", &trace, good, lent(3, 2, 3));
-    edge_in(b"depths one short", &trace, good, lent(3, 3, 2));
-    edge_in(b"lists of 0", &trace, good, of_each(0));
-    edge_in(b"q 0 and lists one short", &trace, bad, of_each(2));
+    edge_in(b"list one short", &trace, good, 2);
+    edge_in(b"list of 0", &trace, good, 0);
+    edge_in(b"q 0 and list one short", &trace, bad, 2);
     let long = [1u16; 512];
-    edge_in(b"512 periods and lists of 511", &long, good, of_each(511));
+    edge_in(b"512 periods and a list of 511", &long, good, 511);
 }
 
 // Nothing carries the trace inside the caps.
@@ -82,12 +73,7 @@ fn no_cutting() {
     let trace: [u16; 2] = [8, 2];
     let tariff = from_empty(4);
     edge(b"8,2 from empty", &trace, tariff);
-    edge_in(
-        b"8,2 from empty in lists one short",
-        &trace,
-        tariff,
-        of_each(1),
-    );
+    edge_in(b"8,2 from empty, list one short", &trace, tariff, 1);
     capped(b"caps 0 and 0", 0, 0);
     let mut long = [1u16; 512];
     long[511] = 5;

@@ -17,7 +17,7 @@ use Rattle.terms.specs.Records.{Cutting, Each, runLength, total}
 use Rattle.bucket.specs.Trial.{trialFigures, trialOf}
 use Rattle.encoding.specs.Number.{itemsAt}
 use Rattle.encoding.specs.StoreLaws.{items-next, items-none}
-use Rattle.plan_file.specs.Plan.{listed, recordsOf}
+use Rattle.record_list.specs.Lists.{listed, recordsOf}
 use Rattle.text.specs.PutLaws.{Puts, Room, room-front, room-next, puts-both}
 use Rattle.sheets.specs.Sheet.{runLine, runLines}
 

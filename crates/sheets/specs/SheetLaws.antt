@@ -3,7 +3,7 @@
 -- Assumes nothing.
 use Prim.Native.Nat.{ℕ, _≤_}
 use native.Mathlib.Omega.{arith}
-use native.Mathlib.Nat.{le-refl, min-eq-left}
+use native.Mathlib.Nat.{le-refl, le-trans, min-eq-left}
 use mathlib.Core.Path.{_≡_, sym, ap, ap₂, subst, _∙_}
 use mathlib.Core.List.{List, _++_}
 use lib.ListN.{length, take, length-append}
@@ -12,8 +12,6 @@ use Rattle.terms.specs.declared.Factor.{Factor}
 use Rattle.terms.specs.declared.Tariff.{Tariff}
 use Rattle.terms.specs.Answer.{Answer, figures, refused}
 use Rattle.terms.specs.AnswerLaws.{on-refused, then-figures, then-refused}
-use Rattle.terms.specs.Lent.{RecordLists, lists, roomOf, roomIn}
-use Rattle.terms.specs.LentLaws.{room-kept}
 use Rattle.terms.specs.Limits.{traceLimit}
 use Rattle.terms.specs.RangeLaws.{RecordRange, TariffRange}
 use Rattle.terms.specs.Records.{Cutting, Each}
@@ -22,16 +20,16 @@ use Rattle.series.specs.Series.{Carried, trueCost}
 use Rattle.series.specs.OutlineLaws.{carried-count, carried-cost}
 use Rattle.encoding.specs.FillLaws.{Fills, fill-refused}
 use Rattle.order_file.specs.OrderedLaws.{ordered-count, ordered-range}
-use Rattle.plan_file.specs.Plan.{recordsOf}
-use Rattle.plan_file.specs.PlanLaws.{lists-hold}
+use Rattle.record_list.specs.ListLaws.{lists-hold, room-kept}
+use Rattle.record_list.specs.Lists.{RecordLists, Wide, lists, recordsOf, roomOf}
 use Rattle.text.specs.Fitted.{fitted}
 use Rattle.text.specs.Lines.{planLine}
 use Rattle.text.specs.PutLaws.{Puts, Room}
 use Rattle.text.specs.ChainLaws.{first-of-two, second-of-two, two}
 use Rattle.planning.specs.declared.orders.PlannedOrder.{PlannedOrder}
-use Rattle.planning.specs.Planning.{Planned, PlansOrder, planned, plannedFigures}
+use Rattle.planning.specs.Planning.{Planned, planned, plannedFigures}
 use Rattle.planning.specs.PlannedLaws.{planned-cheapest, carried-sum, served-range}
-use Rattle.planning.specs.CallLaws.{found-plan, found-as, found-is, trace-is, trace-inside, plan-is}
+use Rattle.planning.specs.CallLaws.{PlansOrder, found-plan, found-as, found-is, trace-is, trace-inside, plan-is}
 use Rattle.sheets.specs.Sheet.{runLines, sheetText, sheetIn}
 use Rattle.sheets.specs.RunLaws.{Printable}
 use Rattle.sheets.specs.LengthLaws.{plan-line-short, runs-short}
@@ -67,54 +65,52 @@ module _ (t : Tariff) (h : TariffRange t) where
 -- ---- A plan that was found
 
 module _ (bs demands : List ℕ) (plan : RecordLists) (demands′ runs rates depths : List ℕ)
-    (found : Answer PlannedOrder) (p : PlansOrder bs demands plan demands′ (lists runs rates depths) found) where
+    (found : Answer PlannedOrder) (p : PlansOrder bs demands traceLimit plan demands′ (lists runs rates depths) found) where
   module _ (y : PlannedOrder) (f : found ≡ figures y) where
     abbrev x : Planned
-    x = found-as bs demands plan demands′ (lists runs rates depths) found p y f
+    x = found-as bs demands traceLimit plan demands′ (lists runs rates depths) found p y f
 
     abbrev t : Tariff
     t = x .order .tariff
 
     is-figures : plannedFigures x ≡ y
-    is-figures = found-plan bs demands plan demands′ (lists runs rates depths) found p y f .2
+    is-figures = found-plan bs demands traceLimit plan demands′ (lists runs rates depths) found p y f .2
 
     carried : Carried t (x .demands) (x .cutting)
-    carried = planned-cheapest (found-is bs demands plan demands′ (lists runs rates depths) found p y f) .carried
+    carried = planned-cheapest (found-is bs demands traceLimit plan demands′ (lists runs rates depths) found p y f) .carried
 
     -- the records at the front of the lists are the cutting
     records-are : recordsOf (y .plan .buckets) runs rates depths ≡ x .cutting
     records-are =
         ap (λ (z : PlannedOrder). recordsOf (z .plan .buckets) runs rates depths) (sym is-figures)
-        ∙ ap (λ (l : RecordLists). recordsOf (length (x .cutting)) (l .runs) (l .rates) (l .depths)) (plan-is bs demands plan demands′ (lists runs rates depths) found p y f)
-        ∙ lists-hold (x .cutting) (plan .runs) (plan .rates) (plan .depths)
+        ∙ lists-hold (x .cutting) plan (lists runs rates depths) (plan-is bs demands traceLimit plan demands′ (lists runs rates depths) found p y f)
 
     demands-are : take (y .order .periods) demands′ ≡ x .demands
-    demands-are = trace-is bs demands plan demands′ (lists runs rates depths) found p y f
+    demands-are = trace-is bs demands traceLimit plan demands′ (lists runs rates depths) found p y f
 
     text-is : shownText y demands′ runs rates depths ≡ sheetText x
     text-is =
         ap₂ (λ (ds : List ℕ) (xs : Cutting). planLine (y .order .periods) (y .plan .buckets) (y .plan .cost) ++ runLines (y .order .tariff .factor) 1 ds xs) demands-are records-are
         ∙ ap (λ (z : PlannedOrder). planLine (z .order .periods) (z .plan .buckets) (z .plan .cost) ++ runLines (z .order .tariff .factor) 1 (x .demands) (x .cutting)) (sym is-figures)
 
-    module _ (room : traceLimit ≤ roomIn plan) where
+    module _ (room : Wide (plan .runs) (plan .rates) (plan .depths)) where
       few-runs : length (x .cutting) ≤ traceLimit
       few-runs =
-          let r = ordered-range (found-is bs demands plan demands′ (lists runs rates depths) found p y f .as-ordered) in
+          let r = ordered-range (found-is bs demands traceLimit plan demands′ (lists runs rates depths) found p y f .as-ordered) in
           omega (arith, carried-count t carried, r .0 .few)
 
       pub shown : Shown y demands′ runs rates depths
       shown =
-          let is = found-is bs demands plan demands′ (lists runs rates depths) found p y f in
+          let is = found-is bs demands traceLimit plan demands′ (lists runs rates depths) found p y f in
           let r = ordered-range (is .as-ordered) in
-          let fits : length (x .cutting) ≤ roomIn plan = omega (arith, few-runs, room) in
-          let kept : roomOf runs rates depths ≡ roomIn plan =
-          ap roomIn (plan-is bs demands plan demands′ (lists runs rates depths) found p y f) ∙ room-kept (x .cutting) plan fits in
+          let fits = le-trans few-runs room in
+          let kept = room-kept (x .cutting) plan (lists runs rates depths) (plan-is bs demands traceLimit plan demands′ (lists runs rates depths) found p y f) fits in
           let buckets-is : y .plan .buckets ≡ length (x .cutting) = ap (λ (z : PlannedOrder). z .plan .buckets) (sym is-figures) in
           let factor-is : t .factor ≡ y .order .tariff .factor = ap (λ (z : PlannedOrder). z .order .tariff .factor) is-figures in
           let ready : Printable (t .factor) (x .demands) (x .cutting) =
           record { factor = r .1 .factor; few = r .0 .few; sum = carried-sum t carried; each = carried-ranges t (r .1) carried } in
           record {
-            periods = trace-inside bs demands plan demands′ (lists runs rates depths) found p y f;
+            periods = trace-inside bs demands traceLimit plan demands′ (lists runs rates depths) found p y f;
             buckets = omega (arith, fits, kept, buckets-is);
             printable = subst (λ (g : Factor). Printable g (take (y .order .periods) demands′) (recordsOf (y .plan .buckets) runs rates depths)) factor-is
                 (subst (λ (ds : List ℕ). Printable (t .factor) ds (recordsOf (y .plan .buckets) runs rates depths)) (sym demands-are)
@@ -134,18 +130,18 @@ module _ (bs demands : List ℕ) (plan : RecordLists) (demands′ runs rates dep
           }
 
     -- a text filled from the lists is filled from the definition
-    pub sheet-filled : length demands ≡ traceLimit → roomIn plan ≡ traceLimit → (old new : List ℕ) (r : Answer ℕ)
+    pub sheet-filled : length demands ≡ traceLimit → (old new : List ℕ) (r : Answer ℕ)
         → Fills (fitted (length old) (shownText y demands′ runs rates depths)) old r new → Fills (sheetIn (length old) bs) old r new
-    sheet-filled hd hr old new r k =
+    sheet-filled hd old new r k =
         let e : planned traceLimit traceLimit bs ≡ figures x =
-        sym (ap₂ (λ (m n : ℕ). planned m n bs) hd hr) ∙ found-plan bs demands plan demands′ (lists runs rates depths) found p y f .1 in
+        sym (ap (λ (m : ℕ). planned m traceLimit bs) hd) ∙ found-plan bs demands traceLimit plan demands′ (lists runs rates depths) found p y f .1 in
         subst (λ (a : Answer (List ℕ)). Fills a old r new) (ap (fitted (length old)) text-is ∙ then-figures _ (λ z. fitted (length old) (sheetText z)) e) k
 
-  pub plan-refused : length demands ≡ traceLimit → roomIn plan ≡ traceLimit → (n : ℕ) → found ≡ refused n → (old : List ℕ)
+  pub plan-refused : length demands ≡ traceLimit → (n : ℕ) → found ≡ refused n → (old : List ℕ)
       → Fills (sheetIn (length old) bs) old (refused n) old
-  plan-refused hd hr n f old =
+  plan-refused hd n f old =
       let e : planned traceLimit traceLimit bs ≡ refused n =
-      sym (ap₂ (λ (m k : ℕ). planned m k bs) hd hr) ∙ on-refused plannedFigures (planned (length demands) (roomIn plan) bs) (sym (p .answers) ∙ f) in
+      sym (ap (λ (m : ℕ). planned m traceLimit bs) hd) ∙ on-refused plannedFigures (planned (length demands) traceLimit bs) (sym (p .answers) ∙ f) in
       fill-refused (sheetIn (length old) bs) old n (sym (then-refused _ (λ z. fitted (length old) (sheetText z)) e))
 
 -- ---- The first line, and behind it the runs' lines

@@ -24,7 +24,14 @@ pub fn sheet(order: &[u8], text: &mut [u8]) -> FillAnswer
     let mut runs = [0u32; TRACE_LIMIT];
     let mut rates = [0u32; TRACE_LIMIT];
     let mut depths = [0u32; TRACE_LIMIT];
-    let found = match plan_order(order, &mut demands, &mut runs, &mut rates, &mut depths) {
+    let found = match plan_order(
+        order,
+        &mut demands,
+        TRACE_LIMIT,
+        &mut runs,
+        &mut rates,
+        &mut depths,
+    ) {
         PlannedAnswer::Found(x) => x,
         PlannedAnswer::Refused(why) => return FillAnswer::Refused(why),
     };

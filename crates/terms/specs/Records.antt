@@ -8,6 +8,10 @@ use Rattle.terms.specs.declared.BucketRecord.{BucketRecord}
 abbrev pub Cutting : Type 0
 Cutting = List BucketRecord
 
+-- The record of a run length, a rate and a depth.
+abbrev pub recordOf : ℕ → ℕ → ℕ → BucketRecord
+recordOf n r B = record { periods = n; bucket = record { rate = record { 0 = r }; depth = record { 0 = B } } }
+
 abbrev pub runLength : BucketRecord → ℕ
 runLength x = x .periods
 

@@ -13,3 +13,10 @@ pub fn greater(a: u32, b: u32) -> u32
 {
     if b < a { a } else { b }
 }
+
+// The smaller of two lengths.
+pub fn shorter(a: usize, b: usize) -> usize
+    ensures { λ r. ⌜ r ≡ min a b ⌝ }
+{
+    if b < a { b } else { a }
+}

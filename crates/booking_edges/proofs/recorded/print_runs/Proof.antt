@@ -5,10 +5,10 @@ use Rattle.booking_edges.proofs.recorded.print_runs.Statement.{statemen
 use Rattle.booking_edges.proofs.recorded.print_runs.Tie as tie
 
 abbrev Inv-loop : tie.InvT-loop
-Inv-loop order demands runs rates depths x factor start₀ i₀ t12 t13 start i = (i ≤ 516) × (start ≤ 516)
+Inv-loop order demands list x factor start₀ i₀ t12 t13 start i = (i ≤ 516) × (start ≤ 516)
 
 abbrev μ-loop : tie.MeasureT-loop
-μ-loop order demands runs rates depths x factor start₀ i₀ t12 t13 start i = 516 - i
+μ-loop order demands list x factor start₀ i₀ t12 t13 start i = 516 - i
 
 read-order-requires : tie.Need-read-order-requires Inv-loop μ-loop
 read-order-requires c κs = search needs
@@ -31,26 +31,14 @@ cast-if1 c = search needs
 returns-2 : tie.Need-returns-2 Inv-loop μ-loop
 returns-2 c = search needs
 
-mul-end-of : tie.Need-mul-end-of Inv-loop μ-loop
-mul-end-of c = search needs
+mul-record : tie.Need-mul-record Inv-loop μ-loop
+mul-record c = search needs
 
-element-copy-out-end-of : tie.Need-element-copy-out-end-of Inv-loop μ-loop
-element-copy-out-end-of c = search needs
+array-copy-out-record : tie.Need-array-copy-out-record Inv-loop μ-loop
+array-copy-out-record c = search needs
 
 end-of-requires : tie.Need-end-of-requires Inv-loop μ-loop
 end-of-requires c κs = search needs
-
-mul-t16 : tie.Need-mul-t16 Inv-loop μ-loop
-mul-t16 c = search needs
-
-element-copy-out-t19 : tie.Need-element-copy-out-t19 Inv-loop μ-loop
-element-copy-out-t19 c = search needs
-
-mul-t23 : tie.Need-mul-t23 Inv-loop μ-loop
-mul-t23 c = search needs
-
-element-copy-out-t26 : tie.Need-element-copy-out-t26 Inv-loop μ-loop
-element-copy-out-t26 c = search needs
 
 slice-aggregate-figure : tie.Need-slice-aggregate-figure Inv-loop μ-loop
 slice-aggregate-figure c = search needs
@@ -101,13 +89,9 @@ print-runs-spec =
     loop-holds
     cast-if1
     returns-2
-    mul-end-of
-    element-copy-out-end-of
+    mul-record
+    array-copy-out-record
     end-of-requires
-    mul-t16
-    element-copy-out-t19
-    mul-t23
-    element-copy-out-t26
     slice-aggregate-figure
     add-figure
     figure-requires

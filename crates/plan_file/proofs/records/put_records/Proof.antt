@@ -5,10 +5,11 @@ use mathlib.Core.Path.{_≡_, ap, subst}
 use mathlib.Core.List.{List, [], _++_}
 use borrow.Author.Needs.{needs}
 use lib.Seq.{sets}
-use Rattle.terms.specs.LentLaws.{Rooms, rooms}
+use Rattle.record_list.specs.ListLaws.{Rooms, rooms}
 use Rattle.encoding.specs.Number.{bytesOfAll, itemsAt}
 use Rattle.plan_file.specs.PlanRules.{length-record}
-use Rattle.plan_file.specs.Plan.{listed, recordBytes}
+use Rattle.record_list.specs.Lists.{listed}
+use Rattle.plan_file.specs.Plan.{recordBytes}
 use Rattle.encoding.specs.StoreLaws.{Storing, none-stored, some-stored, all-stored, items-next, items-none}
 use Rattle.plan_file.proofs.records.put_records.Statement.{statement}
 use Rattle.plan_file.proofs.records.put_records.Tie as tie

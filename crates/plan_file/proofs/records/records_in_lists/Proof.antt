@@ -3,8 +3,7 @@ use Prim.Native.Nat.{_-_}
 use native.Mathlib.Omega.{arith}
 use mathlib.Core.Path.{_∙_}
 use borrow.Author.Needs.{needs}
-use Rattle.terms.specs.LentLaws.{Rooms, rooms}
-use Rattle.plan_file.specs.Plan.{listed}
+use Rattle.record_list.specs.Lists.{listed}
 use Rattle.plan_file.specs.RecordLaws.{Weighed, none-weighed, one-weighed, all-weighed}
 use Rattle.plan_file.proofs.records.records_in_lists.Statement.{statement}
 use Rattle.plan_file.proofs.records.records_in_lists.Tie as tie
@@ -15,42 +14,17 @@ Inv-loop periods buckets runs rates depths tally₀ i₀ tally i = Weighed (list
 abbrev μ-loop : tie.MeasureT-loop
 μ-loop periods buckets runs rates depths tally₀ i₀ tally i = buckets - i
 
-room : (s : tie.Start Inv-loop μ-loop) → let a = s .args in Rooms (a .buckets) (a .runs .now) (a .rates .now) (a .depths .now)
-room s = let a = s .args in rooms (a .buckets) (a .runs .now) (a .rates .now) (a .depths .now) (s .pre .0)
-
 loop-holds : tie.Need-loop-holds Inv-loop μ-loop
 loop-holds c = none-weighed _ 1 _ 0
 
-mul-record-of : tie.Need-mul-record-of Inv-loop μ-loop
-mul-record-of c = search needs
-
-shared-slice-read-record-of : tie.Need-shared-slice-read-record-of Inv-loop μ-loop
-shared-slice-read-record-of c =
-    let i = c .before in
-    omega (arith, i .loop-test .taken, room (i .before .before .before .before .before) .first)
-
-mul-record-of-2 : tie.Need-mul-record-of-2 Inv-loop μ-loop
-mul-record-of-2 c = search needs
-
-shared-slice-read-record-of-2 : tie.Need-shared-slice-read-record-of-2 Inv-loop μ-loop
-shared-slice-read-record-of-2 c =
-    let i = c .before .before in
-    omega (arith, i .loop-test .taken, room (i .before .before .before .before .before) .second)
-
-mul-record-of-3 : tie.Need-mul-record-of-3 Inv-loop μ-loop
-mul-record-of-3 c = search needs
-
-shared-slice-read-record-of-3 : tie.Need-shared-slice-read-record-of-3 Inv-loop μ-loop
-shared-slice-read-record-of-3 c =
-    let i = c .before .before .before in
-    omega (arith, i .loop-test .taken, room (i .before .before .before .before .before) .third)
-
-record-of-requires : tie.Need-record-of-requires Inv-loop μ-loop
-record-of-requires c κs = search needs
+listed-record-requires : tie.Need-listed-record-requires Inv-loop μ-loop
+listed-record-requires c κs =
+    let s = c .before .before .before .before .before in
+    omega (arith, c .loop-test .taken, s .pre .0)
 
 push-requires : tie.Need-push-requires Inv-loop μ-loop
 push-requires c κs =
-    let i = c .before .before .before .before in
+    let i = c .before in
     let s = i .before .before .before .before .before in
     omega (arith, i .before .loop .inv .small, i .loop-test .taken, s .pre .1)
 
@@ -62,8 +36,8 @@ loop-less c = search needs
 
 loop-again : tie.Need-loop-again Inv-loop μ-loop
 loop-again c =
-    let i = c .before .before .before .before .before in
-    one-weighed _ _ _ _ (i .before .loop .inv) (i .loop-test .taken) _ _ (c .before .record-of .ensures) (c .push .ensures .0) (c .push .ensures .1)
+    let i = c .before .before in
+    one-weighed _ _ _ _ (i .before .loop .inv) (i .loop-test .taken) _ _ (c .before .listed-record .ensures) (c .push .ensures .0) (c .push .ensures .1)
 
 whole-requires : tie.Need-whole-requires Inv-loop μ-loop
 whole-requires c κs = search needs
@@ -78,13 +52,7 @@ records-in-lists-spec =
     Inv-loop
     μ-loop
     loop-holds
-    mul-record-of
-    shared-slice-read-record-of
-    mul-record-of-2
-    shared-slice-read-record-of-2
-    mul-record-of-3
-    shared-slice-read-record-of-3
-    record-of-requires
+    listed-record-requires
     push-requires
     add-i
     loop-less

@@ -4,7 +4,7 @@ use mathlib.Core.Path.{sym, ap}
 use lib.Seq.{length-take-le}
 use Rattle.order_file.specs.Order.{orderSays}
 use Rattle.order_file.specs.OrderedLaws.{demands-inside}
-use Rattle.terms.specs.Lent.{RecordLists, lists}
+use Rattle.record_list.specs.Lists.{RecordLists, lists}
 use Rattle.planning.specs.CallLaws.{planning-refused, series-planned}
 use borrow.Author.Needs.{needs}
 use Rattle.planning.proofs.orders.plan_order.Statement.{statement}
@@ -31,23 +31,25 @@ same-length c = search needs
 returns : tie.Need-returns
 returns c =
     let w = c .before .before .before .before .before in
-    planning-refused _ _ (given (w .before .before .before .before .before .before .before)) _ _ (w .spread-order .ensures) _ (ap orderSays (c .before .why .given .1))
+    planning-refused _ _ _ (given (w .before .before .before .before .before .before .before)) _ _ (w .spread-order .ensures) _ (ap orderSays (c .before .why .given .1))
 
 cast-periods : tie.Need-cast-periods
 cast-periods c = search needs
 
-slice-reshare-prefix-series : tie.Need-slice-reshare-prefix-series
-slice-reshare-prefix-series c =
+slice-reshare-prefix-plan-lists : tie.Need-slice-reshare-prefix-plan-lists
+slice-reshare-prefix-plan-lists c =
     let x = c .before .before .before in
     omega (arith, demands-inside _ _ _ _ (spread-at x .spread-order .ensures) _ (ap orderSays (x .x .given .1)))
 
-slice-aggregate-series : tie.Need-slice-aggregate-series
-slice-aggregate-series c =
+slice-aggregate-plan-lists : tie.Need-slice-aggregate-plan-lists
+slice-aggregate-plan-lists c =
     let x = c .before .before .before .before in
     sym (length-take-le _ _ (omega (arith, demands-inside _ _ _ _ (spread-at x .spread-order .ensures) _ (ap orderSays (x .x .given .1)))))
 
-series-requires : tie.Need-series-requires
-series-requires c κs = search needs
+plan-lists-requires : tie.Need-plan-lists-requires
+plan-lists-requires c κs =
+    let x = c .before .before .before .before .before .before .before in
+    spread-at x .before .before .before .before .before .before .before .pre
 
 with-order-requires : tie.Need-with-order-requires
 with-order-requires c κs = search needs
@@ -68,8 +70,8 @@ returns-2 : tie.Need-returns-2
 returns-2 c =
     let p = c .before .before .before .before .before .before .before in
     let x = p .before .before .before .before .before .before .before .before in
-    series-planned _ _ (given (spread-at x .before .before .before .before .before .before .before)) _ _ (spread-at x .spread-order .ensures) _ (ap orderSays (x .x .given .1))
-    _ _ _ _ (p .series .ensures .0) (p .series .ensures .1) _ (c .with-order .ensures)
+    series-planned _ _ _ (given (spread-at x .before .before .before .before .before .before .before)) _ _ (spread-at x .spread-order .ensures) _ (ap orderSays (x .x .given .1))
+    _ _ (p .plan-lists .ensures .0) (p .plan-lists .ensures .1) _ (c .with-order .ensures)
 
 pub plan-order-spec : {M : Type 1} → statement M
 plan-order-spec =
@@ -81,9 +83,9 @@ plan-order-spec =
     same-length
     returns
     cast-periods
-    slice-reshare-prefix-series
-    slice-aggregate-series
-    series-requires
+    slice-reshare-prefix-plan-lists
+    slice-aggregate-plan-lists
+    plan-lists-requires
     with-order-requires
     same-length-2
     same-length-3

@@ -5,14 +5,14 @@ use mathlib.Core.Path.{_≡_, sym, ap, _∙_}
 use mathlib.Core.List.{List}
 use lib.ListN.{length, take, drop, getD, length-take, length-drop}
 use Rattle.terms.specs.Answer.{figures}
-use Rattle.terms.specs.LentLaws.{Rooms, rooms}
+use Rattle.record_list.specs.ListLaws.{Rooms, rooms}
 use Rattle.bucket.specs.Laws.{demands-take, demands-drop}
 use Rattle.bucket.specs.Trace.{Demands}
 use Rattle.meter.specs.declared.meters.Meter.{Meter}
 use Rattle.meter.specs.Meter.{meterRun, openSays}
 use Rattle.meter.specs.MeterLaws.{Sound}
 use Rattle.meter.specs.MeterRuns.{metered-sound}
-use Rattle.plan_file.specs.Plan.{listed}
+use Rattle.record_list.specs.Lists.{listed}
 use Rattle.recording.specs.MeteringLaws.{Metering, none-metered, one-metered, all-metered, run-inside, run-refused}
 use borrow.Author.Needs.{needs}
 use Rattle.recording.proofs.metering.meter_runs.Statement.{statement}

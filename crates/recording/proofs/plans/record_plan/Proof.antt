@@ -4,15 +4,17 @@ use native.Mathlib.Omega.{arith}
 use mathlib.Core.Path.{_≡_, sym, ap, _∙_}
 use mathlib.Core.Bool.{true}
 use mathlib.Core.List.{List}
-use borrow.Author.Tests.{not-true, not-false}
+use borrow.Author.Tests.{le-leb, lt-leb}
 use lib.Dec.{leb}
 use lib.ListN.{length}
 use lib.Seq.{length-take-le}
 use Rattle.terms.specs.Answer.{Answer, figures, onFigures}
-use Rattle.terms.specs.Lent.{RecordLists, lists, roomIn}
-use Rattle.terms.specs.LentLaws.{front-inside, room-each}
+use Rattle.terms.specs.Records.{Cutting}
+use Rattle.terms.specs.LentLaws.{front-inside}
 use Rattle.encoding.specs.Fill.{fillSays}
-use Rattle.plan_file.specs.Plan.{planSays, writePlan}
+use Rattle.plan_file.specs.Plan.{planFile, planSays}
+use Rattle.record_list.specs.ListLaws.{length-records}
+use Rattle.record_list.specs.Lists.{RecordLists, lists, recordsOf}
 use Rattle.recording.specs.RecordingLaws.{no-room, write-refused, read-taken, back-ready, plan-metered}
 use borrow.Author.Needs.{needs}
 use Rattle.recording.proofs.plans.record_plan.Statement.{statement}
@@ -21,34 +23,36 @@ use Rattle.recording.proofs.plans.record_plan.Tie as tie
 abbrev start-at : tie.Else1 → tie.Start
 start-at c = c .before .before .before .before .before .before .before .before .before .before
 
--- the lists that the records are written from, and those they are read back into
-abbrev filled-lists : tie.Start → RecordLists
-filled-lists s = lists (s .args .runs .now) (s .args .rates .now) (s .args .depths .now)
+-- the records that are written, as many as buckets
+abbrev records : tie.Start → Cutting
+records s = recordsOf (s .args .plan .buckets) (s .args .runs .now) (s .args .rates .now) (s .args .depths .now)
 
+counted : (s : tie.Start) → length (records s) ≡ s .args .plan .buckets
+counted s = length-records (s .args .plan .buckets) (s .args .runs .now) (s .args .rates .now) (s .args .depths .now)
+
+-- the lists that they are read back into
 abbrev back : tie.Start → RecordLists
 back s = lists (s .args .back-runs .now) (s .args .back-rates .now) (s .args .back-depths .now)
 
-room : (c : tie.Else1) → let s = start-at c in leb (s .args .plan .buckets) (roomIn (back s)) ≡ true
-room c =
-    let b = back (start-at c) in
-    sym (room-each _ (length (b .runs)) (length (b .rates)) (length (b .depths))) ∙ not-false _ (c .if1 .left)
+room : (c : tie.Else1) → let s = start-at c in leb (s .args .plan .buckets) (s .args .space) ≡ true
+room c = le-leb _ _ (c .if1 .left)
 
-abbrev writing : tie.After-write-plan → Answer (List ℕ)
+abbrev writing : tie.After-write-lists → Answer (List ℕ)
 writing c =
-    let s = start-at (c .before .before) .args in
-    writePlan (length (s .bytes .now)) (s .plan) (s .runs .now) (s .rates .now) (s .depths .now)
+    let s = start-at (c .before .before) in
+    planFile (s .args .room) (length (s .args .bytes .now)) (s .args .plan) (records s)
 
-abbrev write-at : tie.After-known-told → tie.After-write-plan
+abbrev write-at : tie.After-known-told → tie.After-write-lists
 write-at c = c .before .before .before .before .before
 
 -- as many bytes are written as are answered
 written-so : (c : tie.After-known-told) → figures (c .before .n .given .0 .0) ≡ onFigures length (writing (write-at c))
-written-so c = sym (ap fillSays (c .before .n .given .1)) ∙ write-at c .write-plan .ensures .0
+written-so c = sym (ap fillSays (c .before .n .given .1)) ∙ write-at c .write-lists .ensures .0
 
-abbrev told : tie.After-read-plan → tie.After-known-told
+abbrev told : tie.After-read-lists → tie.After-known-told
 told c = c .before .before .before .before .before
 
-abbrev read-at : tie.After-x → tie.After-read-plan
+abbrev read-at : tie.After-x → tie.After-read-lists
 read-at c = c .before .before .before .before .before .before .before .before
 
 cast-buckets : tie.Need-cast-buckets
@@ -57,11 +61,10 @@ cast-buckets c = search needs
 returns : tie.Need-returns
 returns c =
     let s = c .before .before .before .before .before .before .before .before .before .before in
-    let b = back s in
-    no-room _ _ _ (filled-lists s) _ b (sym (room-each _ (length (b .runs)) (length (b .rates)) (length (b .depths))) ∙ not-true _ (c .if1 .taken))
+    no-room _ _ _ (s .args .room) (records s) (counted s) _ _ (back s) (lt-leb _ _ (c .if1 .taken))
 
-write-plan-requires : tie.Need-write-plan-requires
-write-plan-requires c κs = search needs
+write-lists-requires : tie.Need-write-lists-requires
+write-lists-requires c κs = start-at (c .before) .pre .1 .0
 
 enum-known-n : tie.Need-enum-known-n
 enum-known-n c = search needs
@@ -77,22 +80,22 @@ returns-2 c =
     let w = c .before .before .before .before .before in
     let e = w .before .before in
     let s = start-at e in
-    write-refused _ _ _ (filled-lists s) (s .args .bytes .now) (back s) (room e) _ (w .write-plan .ensures .1) _
-    (sym (ap fillSays (c .before .why .given .1)) ∙ w .write-plan .ensures .0)
+    write-refused _ _ _ (s .args .room) (records s) (counted s) (s .args .bytes .now) (s .args .space) (back s) (room e) _ (w .write-lists .ensures .1) _
+    (sym (ap fillSays (c .before .why .given .1)) ∙ w .write-lists .ensures .0)
 
-slice-reshare-prefix-read-plan : tie.Need-slice-reshare-prefix-read-plan
-slice-reshare-prefix-read-plan c =
+slice-reshare-prefix-read-lists : tie.Need-slice-reshare-prefix-read-lists
+slice-reshare-prefix-read-lists c =
     let w = write-at c in
-    omega (arith, front-inside (writing w) (start-at (w .before .before) .args .bytes .now) _ _ (written-so c) (w .write-plan .ensures .1))
+    omega (arith, front-inside (writing w) (start-at (w .before .before) .args .bytes .now) _ _ (written-so c) (w .write-lists .ensures .1))
 
-slice-aggregate-read-plan : tie.Need-slice-aggregate-read-plan
-slice-aggregate-read-plan c =
+slice-aggregate-read-lists : tie.Need-slice-aggregate-read-lists
+slice-aggregate-read-lists c =
     let n = c .before in
     let w = write-at n in
-    sym (length-take-le _ _ (omega (arith, front-inside (writing w) (start-at (w .before .before) .args .bytes .now) _ _ (written-so n) (w .write-plan .ensures .1))))
+    sym (length-take-le _ _ (omega (arith, front-inside (writing w) (start-at (w .before .before) .args .bytes .now) _ _ (written-so n) (w .write-lists .ensures .1))))
 
-read-plan-requires : tie.Need-read-plan-requires
-read-plan-requires c κs = search needs
+read-lists-requires : tie.Need-read-lists-requires
+read-lists-requires c κs = start-at (write-at (c .before .before .before .before) .before .before) .pre .1 .1
 
 enum-known-x : tie.Need-enum-known-x
 enum-known-x c = search needs
@@ -120,8 +123,8 @@ returns-3 c =
     let e = w .before .before in
     let s = start-at e in
     let a = s .args in
-    absurd (read-taken (a .plan) (a .factor) (a .trace .now) (filled-lists s) (a .bytes .now) (back s) (room e) _ (w .write-plan .ensures .1) _ (written-so n) _
-    (sym (ap planSays (c .before .why2 .given .1)) ∙ p .read-plan .ensures .0))
+    absurd (read-taken (a .plan) (a .factor) (a .trace .now) (a .room) (records s) (counted s) (a .bytes .now) (a .space) (back s) (room e) _ (w .write-lists .ensures .1) _ (written-so n) _
+    (sym (ap planSays (c .before .why2 .given .1)) ∙ p .read-lists .ensures .0))
 
 cast-count : tie.Need-cast-count
 cast-count c = search needs
@@ -135,8 +138,8 @@ meter-runs-requires c κs =
     let e = w .before .before in
     let s = start-at e in
     let a = s .args in
-    back-ready (a .plan) (a .factor) (a .trace .now) (filled-lists s) (a .bytes .now) (back s) (room e) _ (w .write-plan .ensures .1) _ (written-so n)
-    (x .x .given .0 .0) (sym (ap planSays (x .x .given .1)) ∙ p .read-plan .ensures .0) _ _ _ (p .read-plan .ensures .1) (s .pre)
+    back-ready (a .plan) (a .factor) (a .trace .now) (a .room) (records s) (counted s) (a .bytes .now) (a .space) (back s) (room e) _ (w .write-lists .ensures .1) _ (written-so n)
+    (x .x .given .0 .0) (sym (ap planSays (x .x .given .1)) ∙ p .read-lists .ensures .0) _ (p .read-lists .ensures .1) (s .pre .1 .1) (s .pre .0)
 
 with-meters-requires : tie.Need-with-meters-requires
 with-meters-requires c κs = search needs
@@ -166,8 +169,8 @@ returns-4 c =
     let e = w .before .before in
     let s = start-at e in
     let a = s .args in
-    plan-metered (a .plan) (a .factor) (a .trace .now) (filled-lists s) (a .bytes .now) (back s) (room e) _ (w .write-plan .ensures .1) _ (written-so n)
-    (x .x .given .0 .0) (sym (ap planSays (x .x .given .1)) ∙ p .read-plan .ensures .0) _ _ _ (p .read-plan .ensures .1) _ (t .meter-runs .ensures) _ (c .with-meters .ensures)
+    plan-metered (a .plan) (a .factor) (a .trace .now) (a .room) (records s) (counted s) (a .bytes .now) (a .space) (back s) (room e) _ (w .write-lists .ensures .1) _ (written-so n)
+    (x .x .given .0 .0) (sym (ap planSays (x .x .given .1)) ∙ p .read-lists .ensures .0) _ (p .read-lists .ensures .1) _ (t .meter-runs .ensures) _ (c .with-meters .ensures)
 
 pub record-plan-spec : {M : Type 1} → statement M
 record-plan-spec =
@@ -175,14 +178,14 @@ record-plan-spec =
     (tie.spec
     cast-buckets
     returns
-    write-plan-requires
+    write-lists-requires
     enum-known-n
     enum-known-why
     same-length
     returns-2
-    slice-reshare-prefix-read-plan
-    slice-aggregate-read-plan
-    read-plan-requires
+    slice-reshare-prefix-read-lists
+    slice-aggregate-read-lists
+    read-lists-requires
     enum-known-x
     enum-known-why-2
     same-length-2

@@ -1,14 +1,14 @@
--- Each entry is looked at once.
+-- Each record is looked at once.
 use Prim.Native.Nat.{_-_, _≤_}
 use borrow.Author.Needs.{needs}
 use Rattle.report.proofs.lent_lists.print_buckets.Statement.{statement}
 use Rattle.report.proofs.lent_lists.print_buckets.Tie as tie
 
 abbrev Inv-loop : tie.InvT-loop
-Inv-loop runs rates depths buckets i₀ t6 i = i ≤ 516
+Inv-loop buckets list i₀ t5 i = i ≤ 516
 
 abbrev μ-loop : tie.MeasureT-loop
-μ-loop runs rates depths buckets i₀ t6 i = 516 - i
+μ-loop buckets list i₀ t5 i = 516 - i
 
 loop-holds : tie.Need-loop-holds Inv-loop μ-loop
 loop-holds c = search needs
@@ -22,23 +22,11 @@ slice-aggregate-words c = search needs
 words-requires : tie.Need-words-requires Inv-loop μ-loop
 words-requires c κs = search needs
 
-mul-t16 : tie.Need-mul-t16 Inv-loop μ-loop
-mul-t16 c = search needs
+mul-record : tie.Need-mul-record Inv-loop μ-loop
+mul-record c = search needs
 
-element-copy-out-t19 : tie.Need-element-copy-out-t19 Inv-loop μ-loop
-element-copy-out-t19 c = search needs
-
-mul-t20 : tie.Need-mul-t20 Inv-loop μ-loop
-mul-t20 c = search needs
-
-element-copy-out-t23 : tie.Need-element-copy-out-t23 Inv-loop μ-loop
-element-copy-out-t23 c = search needs
-
-mul-t25 : tie.Need-mul-t25 Inv-loop μ-loop
-mul-t25 c = search needs
-
-element-copy-out-t28 : tie.Need-element-copy-out-t28 Inv-loop μ-loop
-element-copy-out-t28 c = search needs
+array-copy-out-record : tie.Need-array-copy-out-record Inv-loop μ-loop
+array-copy-out-record c = search needs
 
 record-requires : tie.Need-record-requires Inv-loop μ-loop
 record-requires c κs = search needs
@@ -65,12 +53,8 @@ print-buckets-spec =
     add-if1
     slice-aggregate-words
     words-requires
-    mul-t16
-    element-copy-out-t19
-    mul-t20
-    element-copy-out-t23
-    mul-t25
-    element-copy-out-t28
+    mul-record
+    array-copy-out-record
     record-requires
     add-i
     loop-less

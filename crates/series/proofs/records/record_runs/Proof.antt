@@ -2,14 +2,14 @@
 use Prim.Native.Nat.{ℕ, _+_, _-_, _≤_, _<_}
 use Rattle.series.specs.Cutting.{bests}
 use Rattle.series.specs.OutlineLaws.{carried-count}
-use Rattle.series.specs.RecordLaws.{Firsts, NextRun, Stored, noRecord, next-run, stored-none, stored-next, stored-all}
+use Rattle.series.specs.RecordLaws.{Firsts, NextRun, Stored, next-run, stored-none, stored-next, stored-all}
 use Rattle.series.specs.Series.{cheapestCut, runRecord}
-use Rattle.terms.specs.Lent.{recorded, roomOf}
+use Rattle.record_list.specs.ListLaws.{noRecord, rooms}
+use Rattle.record_list.specs.Lists.{recorded, roomOf}
 use Rattle.terms.specs.Records.{Cutting, runDepth, runLength, runRate}
 use Rattle.series.specs.SeriesLaws.{IsSeries, series-is}
 use Rattle.terms.specs.Answer.{Answer, figures}
 use Rattle.terms.specs.AnswerLaws.{same-figures}
-use Rattle.terms.specs.LentLaws.{rooms}
 use Rattle.terms.specs.RangeLaws.{PeriodsRange}
 use Rattle.terms.specs.declared.Bucket.{Bucket}
 use Rattle.terms.specs.declared.BucketRecord.{BucketRecord}

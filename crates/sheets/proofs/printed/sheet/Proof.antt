@@ -1,7 +1,7 @@
 -- The lists are as long as any order needs; the array holds the longest sheet, and its front is the sheet.
 use mathlib.Core.Path.{_≡_, sym, ap}
 use native.Mathlib.Nat.{le-of-eq}
-use Rattle.terms.specs.Lent.{roomOf}
+use Rattle.record_list.specs.Lists.{roomOf}
 use Rattle.planning.specs.Planning.{plannedSays}
 use Rattle.text.specs.FittedLaws.{long, zeros, ready-count, ready-inside, ready-fills}
 use Rattle.sheets.specs.SheetLaws.{plan-refused, same-room-of, shown, sheet-filled, sheet-room}
@@ -31,7 +31,7 @@ slice-aggregate-plan-order-4 : tie.Need-slice-aggregate-plan-order-4
 slice-aggregate-plan-order-4 c = search needs
 
 plan-order-requires : tie.Need-plan-order-requires
-plan-order-requires c κs = search needs
+plan-order-requires c κs = le-of-eq (sym lists-long)
 
 enum-known-x : tie.Need-enum-known-x
 enum-known-x c = search needs
@@ -42,7 +42,7 @@ enum-known-why c = search needs
 returns : tie.Need-returns
 returns c =
     let p = c .before .before .before .before .before .before .before in
-    plan-refused _ _ _ _ _ _ _ _ (p .plan-order .ensures) (long 512) lists-long _ (ap plannedSays (c .before .why .given .1))
+    plan-refused _ _ _ _ _ _ _ _ (p .plan-order .ensures) (long 512) _ (ap plannedSays (c .before .why .given .1))
     (p .before .before .before .before .before .before .before .args .text .now)
 
 slice-aggregate-put-sheet : tie.Need-slice-aggregate-put-sheet
@@ -91,7 +91,7 @@ returns-2 c =
     let x = order-at p in
     let old = plan-at x .before .before .before .before .before .before .before .args .text .now in
     let s = shown _ _ _ _ _ _ _ _ (plan-at x .plan-order .ensures) _ (ap plannedSays (x .x .given .1)) (le-of-eq (sym lists-long)) in
-    sheet-filled _ _ _ _ _ _ _ _ (plan-at x .plan-order .ensures) _ (ap plannedSays (x .x .given .1)) (long 512) lists-long old _ _
+    sheet-filled _ _ _ _ _ _ _ _ (plan-at x .plan-order .ensures) _ (ap plannedSays (x .x .given .1)) (long 512) old _ _
     (ready-fills _ _ (sheet-room s (zeros 16413) (long 16413)) _ _ (p .put-sheet .ensures) old _ _ (c .before .before .fill .ensures))
 
 pub sheet-spec : {M : Type 1} → statement M

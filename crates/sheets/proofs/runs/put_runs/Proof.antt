@@ -5,7 +5,7 @@ use mathlib.Core.Path.{_≡_, ap}
 use mathlib.Core.List.{List}
 use borrow.Author.Needs.{needs}
 use lib.ListN.{length, take, drop, getD}
-use Rattle.terms.specs.LentLaws.{Rooms, rooms}
+use Rattle.record_list.specs.ListLaws.{Rooms, rooms}
 use Rattle.text.specs.PutLaws.{same-room}
 use Rattle.sheets.specs.RunLaws.{Printing, none-printed, one-printed, all-printed, run-inside, run-ready}
 use Rattle.sheets.proofs.runs.put_runs.Statement.{statement}

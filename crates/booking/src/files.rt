@@ -1,0 +1,28 @@
+// Booking where only the plan's file is wanted.
+use crate::bookings::book;
+use recording::BookingAnswer;
+use terms::Bucket;
+use terms::BucketRecord;
+use terms::Depth;
+use terms::Rate;
+use terms::limits::TRACE_LIMIT;
+ghost use Rattle.recording.specs.Recording.{bookingSays};
+ghost use Rattle.booking.specs.Filed.{BooksFile};
+
+// Books an order as `book` does, with lists of its own that are as long as any order needs: the plan's
+// file fills the front of the bytes. Or a refusal, and the bytes are as they were.
+pub fn book_file(order: &[u8], bytes: &mut [u8]) -> BookingAnswer
+    ensures { λ r. ⌜ BooksFile (now (order .entry)) (now (bytes .entry)) (now (bytes .exit)) (bookingSays r) ⌝ }
+{
+    let none = BucketRecord {
+        periods: 0,
+        bucket: Bucket {
+            rate: Rate(0),
+            depth: Depth(0),
+        },
+    };
+    let mut demands = [0u16; TRACE_LIMIT];
+    let mut plan = [none; TRACE_LIMIT];
+    let mut back = [none; TRACE_LIMIT];
+    book(order, &mut demands, &mut plan, bytes, &mut back)
+}

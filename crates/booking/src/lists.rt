@@ -1,0 +1,54 @@
+// Booking on number lists that hold the figures of the records. Public only for this crate's call,
+// which shows what is required and stores the records in the lent lists.
+use crate::calls::make_calls;
+use crate::fronts::keep;
+use crate::fronts::put_back;
+use recording::BookingAnswer;
+ghost use lib.ListN.{length};
+ghost use Rattle.record_list.specs.Lists.{Wide, lists};
+ghost use Rattle.recording.specs.Recording.{bookingSays};
+ghost use Rattle.booking.specs.BookedLists.{BooksLists};
+ghost use Rattle.booking.specs.CallLaws.{lentLists, sizes};
+
+// The booking call for lists of `room` and of `space` records.
+pub fn book_lists(
+    order: &[u8],
+    demands: &mut [u16],
+    room: usize,
+    runs: &mut [u32],
+    rates: &mut [u32],
+    depths: &mut [u32],
+    bytes: &mut [u8],
+    space: usize,
+    back_runs: &mut [u32],
+    back_rates: &mut [u32],
+    back_depths: &mut [u32],
+) -> BookingAnswer
+    requires { ⌜ Wide (now runs) (now rates) (now depths) × Wide (now «back_runs») (now «back_rates») (now «back_depths») ⌝ }
+    ensures { λ r. ⌜ BooksLists (now (order .entry)) (sizes (length (now (demands .entry))) room (length (now (bytes .entry))) space)
+        (lentLists (now (demands .entry)) (lists (now (runs .entry)) (now (rates .entry)) (now (depths .entry)))
+        (now (bytes .entry)) (lists (now («back_runs» .entry)) (now («back_rates» .entry)) (now («back_depths» .entry))))
+        (lentLists (now (demands .exit)) (lists (now (runs .exit)) (now (rates .exit)) (now (depths .exit)))
+        (now (bytes .exit)) (lists (now («back_runs» .exit)) (now («back_rates» .exit)) (now («back_depths» .exit))))
+        (bookingSays r) ⌝ }
+{
+    let demands_before = keep(demands);
+    let answer = make_calls(
+        order,
+        demands,
+        room,
+        runs,
+        rates,
+        depths,
+        bytes,
+        space,
+        back_runs,
+        back_rates,
+        back_depths,
+    );
+    let BookingAnswer::Refused(_) = answer else {
+        return answer;
+    };
+    put_back(&demands_before, demands);
+    answer
+}

@@ -1,0 +1,13 @@
+-- The range of T is as its own check gives it.
+use borrow.Author.Needs.{needs}
+use Rattle.plan_file.proofs.lists.counts_in_range.Statement.{statement}
+use Rattle.plan_file.proofs.lists.counts_in_range.Tie as tie
+
+periods-in-range-requires : tie.Need-periods-in-range-requires
+periods-in-range-requires c κs = search needs
+
+returns : tie.Need-returns
+returns c = rw (c .periods-in-range .ensures)
+
+pub counts-in-range-spec : {M : Type 1} → statement M
+counts-in-range-spec = tie.close (tie.spec periods-in-range-requires returns)

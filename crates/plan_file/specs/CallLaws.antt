@@ -1,0 +1,95 @@
+-- What the calls on lent records store and load: as many records as buckets where a plan is read, and none on a refusal; the
+-- records that are written from.
+-- Assumes nothing.
+use Prim.Native.Nat.{ℕ, min, _≤_}
+use native.Mathlib.Omega.{arith}
+use mathlib.Core.Path.{_≡_, refl, sym, ap, _∙_}
+use mathlib.Core.Bool.{Bool, true, false}
+use mathlib.Core.List.{List}
+use borrow.Author.Tests.{leb-true}
+use lib.Dec.{leb}
+use lib.ListN.{length, take}
+use lib.Seq.{length-take-le}
+use Rattle.terms.specs.Answer.{Answer, figures, refused, weigh}
+use Rattle.terms.specs.AnswerLaws.{then-found, weigh-figures}
+use Rattle.terms.specs.Limits.{traceLimit}
+use Rattle.terms.specs.Records.{Cutting}
+use Rattle.encoding.specs.Number.{numberAt}
+use Rattle.encoding.specs.NumberLaws.{length-items}
+use Rattle.record_list.specs.ListLaws.{lists-hold}
+use Rattle.record_list.specs.Lists.{RecordLists, Filled, recordsOf, countOf}
+use Rattle.plan_file.specs.declared.plans.PlanFigures.{PlanFigures}
+use Rattle.plan_file.specs.Plan.{Recorded, bucketsOffset, bucketsOf, countsOk, figuresOf, fitting, planFile, planIn, readPlan}
+use Rattle.plan_file.specs.PlanRules.{counts-range, read-rules, write-periods}
+
+-- The number of buckets that is answered; none on a refusal.
+abbrev pub countIn : Answer PlanFigures → ℕ
+countIn (figures x) = x .buckets
+countIn (refused n) = 0
+
+module _ (room : ℕ) (bs : List ℕ) where
+  abbrev read : Answer Recorded
+  read = readPlan room bs
+
+  pub count-is : (r : Answer PlanFigures) (n : ℕ) → r ≡ figuresOf read → n ≡ countIn r → n ≡ countOf (bucketsOf read)
+  count-is r n e f = f ∙ ap countIn e ∙ go read
+    where
+      go : (a : Answer Recorded) → countIn (figuresOf a) ≡ countOf (bucketsOf a)
+      go (figures x) = refl
+      go (refused m) = refl
+
+  -- The records fit the lent list and the lists that hold their figures.
+  pub count-fits : (n : ℕ) → n ≡ countOf (bucketsOf read) → (n ≤ room) × (n ≤ traceLimit)
+  count-fits n e = go read refl
+    where
+      go : (a : Answer Recorded) → read ≡ a → (n ≤ room) × (n ≤ traceLimit)
+      go (figures x) f =
+          let g = then-found (planIn bs) (fitting room) f in
+          let y = g .0 in
+          let w = weigh-figures (leb (length (y .buckets)) room) 6 (figures y) (g .2) in
+          let r = read-rules bs y (g .1) in
+          let c = r .0 .counts in
+          let k : length (y .buckets) ≡ numberAt 4 bs 8 = ap (λ (z : Recorded). length (z .buckets)) (r .1) ∙ length-items _ 12 (numberAt 4 bs 8) bucketsOffset in
+          let m : n ≡ length (y .buckets) = e ∙ ap (λ (b : Answer Recorded). countOf (bucketsOf b)) (f ∙ sym (w .1)) in
+          (omega (arith, m, leb-true (length (y .buckets)) room (w .0)), omega (arith, m, k, c .few, c .periods .few))
+      go (refused m) f =
+          let k : n ≡ 0 = e ∙ ap (λ (b : Answer Recorded). countOf (bucketsOf b)) f in
+          (omega (arith, k), omega (arith, k))
+
+-- ---- Writing
+
+-- The records that are loaded: k, or fewer where the list or the longest plan has fewer, which is refused.
+abbrev pub loadCount : ℕ → ℕ → ℕ
+loadCount k space = min (min k space) traceLimit
+
+pub load-fits : (k space n : ℕ) → n ≡ loadCount k space → (n ≤ space) × (n ≤ traceLimit)
+load-fits k space n e = (omega (arith, e), omega (arith, e))
+
+module _ (room : ℕ) (x : PlanFigures) (list : Cutting) where
+  abbrev k : ℕ
+  k = x .buckets
+
+  -- A file is the same for any records where T, k, the cost or the list are refused, and else all k are loaded.
+  pub loaded-file : (xs : Cutting) → (k ≤ length list → k ≤ traceLimit → xs ≡ take k list)
+      → planFile (length list) room x xs ≡ planFile (length list) room x (take k list)
+  unfolding planFile
+  loaded-file xs h = go (countsOk (x .periods) k) (leb k (length list)) refl refl
+    where
+      go : (a b : Bool) → countsOk (x .periods) k ≡ a → leb k (length list) ≡ b → planFile (length list) room x xs ≡ planFile (length list) room x (take k list)
+      go false b e f = write-periods (length list) room x xs e ∙ sym (write-periods (length list) room x (take k list) e)
+      go true false e f = rw (e, f)
+      go true true e f =
+          let c = counts-range (x .periods) k e in
+          ap (planFile (length list) room x) (h (leb-true _ _ f) (omega (arith, c .few, c .periods .few)))
+
+  pub loaded-records : (old new : RecordLists) (n : ℕ) → n ≡ loadCount k (length list) → Filled (figures (take n list)) old new
+      → planFile (length list) room x (recordsOf k (new .runs) (new .rates) (new .depths)) ≡ planFile (length list) room x (take k list)
+  loaded-records old new n e f = loaded-file (recordsOf k (new .runs) (new .rates) (new .depths)) all
+    where
+      all : k ≤ length list → k ≤ traceLimit → recordsOf k (new .runs) (new .rates) (new .depths) ≡ take k list
+      all l m =
+          let i : n ≡ k = e ∙ omega (arith, l, m) in
+          let j : length (take n list) ≡ k = length-take-le n list (omega (arith, i, l)) ∙ i in
+          ap (λ (z : ℕ). recordsOf z (new .runs) (new .rates) (new .depths)) (sym j)
+          ∙ lists-hold (take n list) old new f
+          ∙ ap (λ (z : ℕ). take z list) i

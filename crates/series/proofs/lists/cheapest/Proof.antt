@@ -1,0 +1,80 @@
+-- The outline from the first period on is that of the whole trace: without a cost there is no cutting, and else its runs are
+-- recorded.
+use borrow.Author.Needs.{needs}
+use Rattle.series.specs.RecordLaws.{kept-none, kept-firsts, kept-plan}
+use Rattle.series.specs.CallLaws.{refusal}
+use Rattle.series.specs.SuffixLaws.{kept-start}
+use Rattle.series.proofs.lists.cheapest.Statement.{statement}
+use Rattle.series.proofs.lists.cheapest.Tie as tie
+
+slice-aggregate-cut-suffixes : tie.Need-slice-aggregate-cut-suffixes
+slice-aggregate-cut-suffixes c = search needs
+
+slice-aggregate-cut-suffixes-2 : tie.Need-slice-aggregate-cut-suffixes-2
+slice-aggregate-cut-suffixes-2 c = search needs
+
+slice-aggregate-cut-suffixes-3 : tie.Need-slice-aggregate-cut-suffixes-3
+slice-aggregate-cut-suffixes-3 c = search needs
+
+cut-suffixes-requires : tie.Need-cut-suffixes-requires
+cut-suffixes-requires c κs =
+    let s = c .before .before .before .before .before .before .before in
+    (s .pre .0 .few, (s .pre .1 .0, kept-start _ _ (s .pre .0 .few)))
+
+array-read-buckets : tie.Need-array-read-buckets
+array-read-buckets c = search needs
+
+array-read-cost : tie.Need-array-read-cost
+array-read-cost c = search needs
+
+returns : tie.Need-returns
+returns c =
+    let d = c .before .before .before .before in
+    let s = d .before .before .before .before .before .before .before .before in
+    refusal (s .args .tariff) _ _ 7
+    (kept-none _ (s .pre .1 .0) _ (s .pre .0 .few) _ _ _ (d .cut-suffixes .ensures) (c .if1 .taken))
+
+slice-aggregate-record-runs : tie.Need-slice-aggregate-record-runs
+slice-aggregate-record-runs c = search needs
+
+record-runs-requires : tie.Need-record-runs-requires
+record-runs-requires c κs =
+    let e = c .before .before .before .before in
+    let d = e .before .before .before .before in
+    let s = d .before .before .before .before .before .before .before .before in
+    (s .pre .0, (s .pre .1 .0, (kept-firsts _ (s .pre .1 .0) _ (s .pre .0 .few) _ _ _ (d .cut-suffixes .ensures) (e .if1 .left), s .pre .1 .1)))
+
+same-length : tie.Need-same-length
+same-length c = search needs
+
+same-length-2 : tie.Need-same-length-2
+same-length-2 c = search needs
+
+same-length-3 : tie.Need-same-length-3
+same-length-3 c = search needs
+
+returns-2 : tie.Need-returns-2
+returns-2 c =
+    let r = c .before .before .before .before .before .before in
+    let e = r .before .before .before .before .before in
+    let d = e .before .before .before .before in
+    let s = d .before .before .before .before .before .before .before .before in
+    (kept-plan _ (s .pre .1 .0) _ (s .pre .0 .few) _ _ _ (d .cut-suffixes .ensures) (e .if1 .left), r .record-runs .ensures)
+
+pub cheapest-spec : {M : Type 1} → statement M
+cheapest-spec =
+    tie.close
+    (tie.spec
+    slice-aggregate-cut-suffixes
+    slice-aggregate-cut-suffixes-2
+    slice-aggregate-cut-suffixes-3
+    cut-suffixes-requires
+    array-read-buckets
+    array-read-cost
+    returns
+    slice-aggregate-record-runs
+    record-runs-requires
+    same-length
+    same-length-2
+    same-length-3
+    returns-2)

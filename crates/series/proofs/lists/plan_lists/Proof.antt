@@ -1,0 +1,114 @@
+-- Each refusal is the first rule that its test finds broken, and leaves the lists; past the tests the search gives the answer.
+use Prim.Native.Nat.{ℕ}
+use native.Mathlib.Nat.{le-trans}
+use mathlib.Core.Path.{_≡_, subst}
+use mathlib.Core.Bool.{true, false}
+use mathlib.Core.List.{List}
+use borrow.Author.Needs.{needs}
+use borrow.Author.Tests.{le-leb, lt-leb}
+use lib.Dec.{leb}
+use lib.ListN.{length}
+use Rattle.terms.specs.declared.Tariff.{Tariff}
+use Rattle.terms.specs.Answer.{Answer, refused}
+use Rattle.terms.specs.Bools.{check-passed, check-failed}
+use Rattle.terms.specs.Ranges.{periodsOk, tariffOk}
+use Rattle.terms.specs.RangeLaws.{periods-range, tariff-range}
+use Rattle.terms.specs.Records.{Cutting}
+use Rattle.record_list.specs.Lists.{RecordLists, lists}
+use Rattle.series.specs.CallLaws.{Result, refusal}
+use Rattle.series.specs.Series.{cheapestCut, seriesOf}
+use Rattle.series.proofs.lists.plan_lists.Statement.{statement}
+use Rattle.series.proofs.lists.plan_lists.Tie as tie
+
+module _ (t : Tariff) (room : ℕ) (ds : List ℕ) where
+  abbrev answer : Answer Cutting
+  answer = seriesOf t room ds
+
+  no-periods : periodsOk (length ds) ≡ false → answer ≡ refused 3
+  unfolding seriesOf
+  no-periods h = rw h
+
+  module _ (h : periodsOk (length ds) ≡ true) where
+    no-tariff : tariffOk t ≡ false → answer ≡ refused 5
+    unfolding seriesOf
+    no-tariff k = rw (h, k)
+
+    module _ (k : tariffOk t ≡ true) where
+      no-room : leb (length ds) room ≡ false → answer ≡ refused 6
+      unfolding seriesOf
+      no-room l = rw (h, k, l)
+
+      past-tests : leb (length ds) room ≡ true → cheapestCut t ds ≡ answer
+      unfolding seriesOf
+      past-tests l = rw (h, k, l)
+
+periods-in-range-requires : tie.Need-periods-in-range-requires
+periods-in-range-requires c κs = search needs
+
+returns : tie.Need-returns
+returns c =
+    let s = c .before .before .before .before .before .before .args in
+    refusal (s .tariff) _ _ 3 (no-periods (s .tariff) (s .room) (s .trace .now) (check-failed (c .before .periods-in-range .ensures) (c .if1 .taken)))
+
+-- past the first test
+periods : (c : tie.Else1) → periodsOk (length (c .before .before .before .before .before .before .args .trace .now)) ≡ true
+periods c = check-passed (c .before .periods-in-range .ensures) (c .if1 .left)
+
+tariff-in-range-requires : tie.Need-tariff-in-range-requires
+tariff-in-range-requires c κs = search needs
+
+returns-2 : tie.Need-returns-2
+returns-2 c =
+    let s = c .before .before .before .before .before .before .before .before .args in
+    refusal (s .tariff) _ _ 5
+    (no-tariff (s .tariff) (s .room) (s .trace .now) (periods (c .before .before)) (check-failed (c .before .tariff-in-range .ensures) (c .if2 .taken)))
+
+-- past the second
+figures : (c : tie.Else2) → tariffOk (c .before .before .before .before .before .before .before .before .args .tariff) ≡ true
+figures c = check-passed (c .before .tariff-in-range .ensures) (c .if2 .left)
+
+returns-3 : tie.Need-returns-3
+returns-3 c =
+    let s = c .before .before .before .before .before .before .before .before .before .args in
+    refusal (s .tariff) _ _ 6
+    (no-room (s .tariff) (s .room) (s .trace .now) (periods (c .before .before .before)) (figures (c .before)) (lt-leb _ _ (c .if3 .taken)))
+
+cheapest-requires : tie.Need-cheapest-requires
+cheapest-requires c κs =
+    let d = c .before .before .before in
+    let s = d .before .before .before .before .before .before .before .before .before in
+    let p = periods-range _ (periods (d .before .before .before)) in
+    (p, (tariff-range _ (figures (d .before)), le-trans (p .few) (s .pre)))
+
+same-length : tie.Need-same-length
+same-length c = search needs
+
+same-length-2 : tie.Need-same-length-2
+same-length-2 c = search needs
+
+same-length-3 : tie.Need-same-length-3
+same-length-3 c = search needs
+
+returns-4 : tie.Need-returns-4
+returns-4 c =
+    let r = c .before .before .before .before .before .before in
+    let d = r .before .before .before .before in
+    let s = d .before .before .before .before .before .before .before .before .before .args in
+    subst (Result (s .tariff) (lists (s .runs .now) (s .rates .now) (s .depths .now)) _ _)
+    (past-tests (s .tariff) (s .room) (s .trace .now) (periods (d .before .before .before)) (figures (d .before)) (le-leb _ _ (d .if3 .left)))
+    (r .cheapest .ensures)
+
+pub plan-lists-spec : {M : Type 1} → statement M
+plan-lists-spec =
+    tie.close
+    (tie.spec
+    periods-in-range-requires
+    returns
+    tariff-in-range-requires
+    returns-2
+    returns-3
+    cheapest-requires
+    same-length
+    same-length-2
+    same-length-3
+    returns-4)
