@@ -1,12 +1,14 @@
 // Books the order on standard input: writes the plan file to standard output; or nothing there, and
 // the refusal line to standard error.
+mod files;
+
 use booking::BookingAnswer;
-use booking::book_file;
 use console::ORDER_ROOM;
 use console::has_words;
 use console::put_front;
 use console::read_all;
 use console::refuse;
+use files::book_file;
 use libc::STDERR_FILENO;
 
 // The longest plan file: 32 bytes, and 12 for each of 512 buckets.

@@ -10,8 +10,7 @@ use lib.Dec.{leb}
 use lib.ListN.{length, take}
 use Rattle.terms.specs.declared.Tariff.{Tariff}
 use Rattle.terms.specs.Answer.{Answer, figures, refused, onFigures, andThen}
-use Rattle.terms.specs.AnswerLaws.{figures-refused, on-figures, on-refused, weigh-figures, then-figures, then-refused, then-found}
-use Rattle.terms.specs.Lent.{filled}
+use Rattle.terms.specs.AnswerLaws.{figures-refused, weigh-figures, then-figures, then-refused, then-found}
 use Rattle.terms.specs.LentLaws.{filled-front, filled-length}
 use Rattle.terms.specs.RangeLaws.{PeriodsRange, periods-ok, tariff-ok}
 use Rattle.terms.specs.Records.{Cutting, Each}

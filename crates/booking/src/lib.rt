@@ -2,12 +2,10 @@
 // in one call.
 mod bookings;
 mod calls;
-mod files;
 mod fronts;
 mod lists;
 
 pub use bookings::book;
-pub use files::book_file;
 pub use recording::Booking;
 pub use recording::BookingAnswer;
 pub use recording::MeterTotals;

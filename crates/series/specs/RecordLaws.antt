@@ -5,9 +5,9 @@ use Prim.Native.Nat.{ℕ, suc, _+_, _≤_, _<_}
 use native.Mathlib.Omega.{arith}
 use native.Mathlib.Numerals.{add-one}
 use mathlib.Core.Path.{_≡_, refl, sym, ap, _∙_}
-use mathlib.Core.List.{List, [], _∷_, _++_, map}
-use lib.ListN.{length, take, drop, getD, set, length-drop, length-set, length-map, List·getD-map}
-use lib.Seq.{take-suc, drop-cons, append-snoc, set-at, length-take-le, drop-drop, take-length}
+use mathlib.Core.List.{List, [], _∷_, map}
+use lib.ListN.{length, take, drop, getD, set, length-drop, length-set, length-map}
+use lib.Seq.{drop-cons, drop-drop}
 use Rattle.terms.specs.declared.BucketRecord.{BucketRecord}
 use Rattle.terms.specs.declared.Tariff.{Tariff}
 use Rattle.terms.specs.Answer.{Answer, figures, refused}
@@ -16,26 +16,13 @@ use Rattle.terms.specs.RangeLaws.{PeriodsRange, TariffRange, periods-ok, tariff
 use Rattle.single.specs.Single.{singleOf}
 use Rattle.series.specs.RunLaws.{best-runs, best-of-none}
 use Rattle.series.specs.Series.{runCost, recordOf, runRecord, cheapestCut, planOf}
+use Rattle.record_list.specs.FrontLaws.{front, front-filled, next-map}
 use Rattle.record_list.specs.ListLaws.{noRecord}
 use Rattle.record_list.specs.Lists.{recorded}
 use Rattle.terms.specs.Records.{Cutting, runLength}
 use Rattle.series.specs.SeriesLaws.{record-whole, series-is}
 use Rattle.series.specs.Outline.{unpriced, outlineOf}
 use Rattle.series.specs.SuffixLaws.{Kept, outlineFrom, outline-none, outline-found, outline-plan}
-
--- A list whose front is that of another.
-abbrev pub front : ℕ → List ℕ → List ℕ → List ℕ
-front k xs old = take k xs ++ drop k old
-
--- One entry more.
-pub front-next : (k : ℕ) (xs old : List ℕ) (v : ℕ) → v ≡ getD xs k 0 → k < length xs → k < length old → set (front k xs old) k v ≡ front (k + 1) xs old
-front-next k xs old v e l m =
-    ap (λ (ys : List ℕ). set (take k xs ++ ys) k v) (drop-cons old k 0 m)
-    ∙ set-at (take k xs) (getD old k 0) (drop (suc k) old) v k (length-take-le k xs (omega arith))
-    ∙ ap (λ (n : ℕ). take k xs ++ n ∷ drop (suc k) old) e
-    ∙ sym (append-snoc (take k xs) (getD xs k 0) (drop (suc k) old))
-    ∙ ap (λ (ys : List ℕ). ys ++ drop (suc k) old) (sym (take-suc xs k 0 l))
-    ∙ ap (λ (n : ℕ). front n xs old) (sym (add-one k))
 
 -- The record of a run is what the single call finds for it.
 pub record-single : (t : Tariff) (run : List ℕ) → TariffRange t → PeriodsRange (length run) → runRecord t run ≡ recordOf (length run) (singleOf t run)
@@ -98,20 +85,16 @@ pub stored-none : (figure : BucketRecord → ℕ) (cut : Cutting) (old : List �
 stored-none figure cut old = record { same = refl; is = refl }
 
 module _ (figure : BucketRecord → ℕ) (cut : Cutting) (old new : List ℕ) where
-  pub stored-next : (k v : ℕ) → figure noRecord ≡ 0 → k < length cut → k < length old → v ≡ figure (getD cut k noRecord)
+  pub stored-next : (k v : ℕ) → k < length cut → k < length old → v ≡ figure (getD cut k noRecord)
       → Stored figure cut k old new → Stored figure cut (k + 1) old (set new k v)
-  stored-next k v z l m e s =
-      let f : v ≡ getD (map figure cut) k 0 = e ∙ sym (List·getD-map figure cut k noRecord) ∙ ap (getD (map figure cut) k) z in
+  stored-next k v l m e s =
       record {
         same = length-set new k v ∙ s .same;
-        is = ap (λ (ys : List ℕ). set ys k v) (s .is) ∙ front-next k (map figure cut) old v f (omega (arith, length-map cut figure)) m;
+        is = ap (λ (ys : List ℕ). set ys k v) (s .is) ∙ ap (set (front k (map figure cut) old) k) e ∙ next-map figure k cut old noRecord l m;
       }
 
   pub stored-all : (k : ℕ) → k ≡ length cut → Stored figure cut k old new → new ≡ recorded figure (figures cut) old
-  stored-all k e s =
-      s .is
-      ∙ ap (λ (n : ℕ). front n (map figure cut) old) (e ∙ sym (length-map cut figure))
-      ∙ ap (λ (ys : List ℕ). ys ++ drop (length (map figure cut)) old) (take-length (map figure cut))
+  stored-all k e s = s .is ∙ front-filled k (map figure cut) old (length-map cut figure ∙ sym e)
 
 -- ---- The outline from the first period on
 

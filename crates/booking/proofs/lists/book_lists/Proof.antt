@@ -1,6 +1,6 @@
 -- The front of the demands is kept, the calls are made, and after a refusal the front is put back.
 use native.Mathlib.Omega.{arith}
-use mathlib.Core.Path.{sym, ap}
+use mathlib.Core.Path.{ap}
 use Rattle.encoding.specs.NumberLaws.{Bytes}
 use Rattle.record_list.specs.Lists.{lists}
 use Rattle.recording.specs.Recording.{bookingSays}

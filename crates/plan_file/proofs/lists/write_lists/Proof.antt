@@ -7,7 +7,6 @@ use Prim.Native.Nat.{ℕ, _≤_}
 use native.Mathlib.Nat.{le-trans}
 use borrow.Author.Tests.{le-leb, lt-leb}
 use lib.Dec.{leb}
-use lib.ListN.{length}
 use lib.Seq.{sets}
 use Rattle.terms.specs.Bools.{check-passed, check-failed}
 use Rattle.terms.specs.Limits.{costLimit}

@@ -14,7 +14,7 @@ use Rattle.terms.specs.Bools.{check-passed, check-failed}
 use Rattle.terms.specs.Ranges.{periodsOk, tariffOk}
 use Rattle.terms.specs.RangeLaws.{periods-range, tariff-range}
 use Rattle.terms.specs.Records.{Cutting}
-use Rattle.record_list.specs.Lists.{RecordLists, lists}
+use Rattle.record_list.specs.Lists.{lists}
 use Rattle.series.specs.CallLaws.{Result, refusal}
 use Rattle.series.specs.Series.{cheapestCut, seriesOf}
 use Rattle.series.proofs.lists.plan_lists.Statement.{statement}

@@ -103,9 +103,9 @@ module _ (t : Tariff) (ds runs₀ rates₀ depths₀ runs rates depths : List �
           inside = ends;
           so-far = omega (arith, next .more);
           rest = ap (λ (n : ℕ). cheapestCut t (drop (start + n) ds)) length-is ∙ next .onward;
-          runs-stored = stored-next runLength (r .cut) runs₀ runs k _ refl (next .more) (omega (arith, next .more, r .few, room .first)) length-is (r .runs-stored);
-          rates-stored = stored-next runRate (r .cut) rates₀ rates k _ refl (next .more) (omega (arith, next .more, r .few, room .second)) (ap (λ (b : Bucket). b .rate .0) b-is) (r .rates-stored);
-          depths-stored = stored-next runDepth (r .cut) depths₀ depths k _ refl (next .more) (omega (arith, next .more, r .few, room .third)) (ap (λ (b : Bucket). b .depth .0) b-is) (r .depths-stored);
+          runs-stored = stored-next runLength (r .cut) runs₀ runs k _ (next .more) (omega (arith, next .more, r .few, room .first)) length-is (r .runs-stored);
+          rates-stored = stored-next runRate (r .cut) rates₀ rates k _ (next .more) (omega (arith, next .more, r .few, room .second)) (ap (λ (b : Bucket). b .rate .0) b-is) (r .rates-stored);
+          depths-stored = stored-next runDepth (r .cut) depths₀ depths k _ (next .more) (omega (arith, next .more, r .few, room .third)) (ap (λ (b : Bucket). b .depth .0) b-is) (r .depths-stored);
         }
 
   all-stored : length ds ≤ start → k ≡ length (r .cut)

@@ -1,16 +1,16 @@
-// Booking where only the plan's file is wanted.
-use crate::bookings::book;
-use recording::BookingAnswer;
+// An order booked with lists that are as long as any order needs.
+use booking::BookingAnswer;
+use booking::book;
 use terms::Bucket;
 use terms::BucketRecord;
 use terms::Depth;
 use terms::Rate;
 use terms::limits::TRACE_LIMIT;
 ghost use Rattle.recording.specs.Recording.{bookingSays};
-ghost use Rattle.booking.specs.Filed.{BooksFile};
+ghost use Rattle.book.specs.Filed.{BooksFile};
 
-// Books an order as `book` does, with lists of its own that are as long as any order needs: the plan's
-// file fills the front of the bytes. Or a refusal, and the bytes are as they were.
+// Books an order: the plan's file fills the front of the bytes; or a refusal, and the bytes are as
+// they were.
 pub fn book_file(order: &[u8], bytes: &mut [u8]) -> BookingAnswer
     ensures { λ r. ⌜ BooksFile (now (order .entry)) (now (bytes .entry)) (now (bytes .exit)) (bookingSays r) ⌝ }
 {

@@ -1,16 +1,16 @@
--- Booking where only the plan's file is wanted (00, demand 3).
+-- An order booked where only the plan's file is wanted.
 -- Assumes nothing.
+use Prim.Native.Nat.{ℕ}
 use mathlib.Core.Path.{_≡_}
 use mathlib.Core.List.{List}
 use lib.ListN.{length}
 use Rattle.terms.specs.Answer.{Answer}
 use Rattle.terms.specs.Limits.{traceLimit}
 use Rattle.recording.specs.declared.plans.Booking.{Booking}
 use Rattle.booking.specs.Booking.{Lent}
 use Rattle.booking.specs.Claim.{Claim}
-use Prim.Native.Nat.{ℕ}
 
--- An order is booked with these bytes and with lists of 512 entries, as many as the longest trace has periods.
+-- The claim holds of these bytes and of lists of 512 entries, as many as the longest trace has periods.
 pub record BooksFile (bs bytes bytes′ : List ℕ) (answer : Answer Booking) : Type 0 where
   pub before : Lent
   pub after : Lent

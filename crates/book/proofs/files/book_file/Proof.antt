@@ -1,4 +1,4 @@
--- `booking::files::book_file` meets its contract. Three local arrays are lent to `book`, of which the proof knows only the
+-- `book::files::book_file` meets its contract. Three local arrays are lent to `book`, of which the proof knows only the
 -- contract, and the bytes are passed on.
 -- Assumes nothing.
 use mathlib.Core.Path.{_≡_, refl}
@@ -61,15 +61,15 @@ use Rattle.terms.proofs.BucketRecord.Laws as T′
 use Rattle.recording.specs.declared.plans.BookingAnswer.{BookingAnswer}
 use Rattle.recording.proofs.plans.BookingAnswer as An
 use Rattle.recording.proofs.plans.BookingAnswer.Laws as An′
-use Rattle.booking.proofs.bookings.book as book
-use Rattle.booking.proofs.bookings.book.Symbol as book-def
-use Rattle.booking.proofs.bookings.book.Symbol.{name as #book}
-use Rattle.booking.proofs.bookings.book.Met as book-thm
-use Rattle.booking.proofs.files.book_file.Key.{name as #key}
-use Rattle.booking.proofs.files.book_file as self
-use Rattle.booking.proofs.files.book_file.Statement as stated
-use Rattle.booking.proofs.files.book_file.Code as code
-use Rattle.booking.proofs.files.book_file.Code.Mir as mir
+use Rattle.booking.proofs.book as book
+use Rattle.booking.proofs.book.Symbol as book-def
+use Rattle.booking.proofs.book.Symbol.{name as #book}
+use Rattle.booking.proofs.book.Met as book-thm
+use Rattle.book.proofs.files.book_file.Key.{name as #key}
+use Rattle.book.proofs.files.book_file as self
+use Rattle.book.proofs.files.book_file.Statement as stated
+use Rattle.book.proofs.files.book_file.Code as code
+use Rattle.book.proofs.files.book_file.Code.Mir as mir
 
 abbrev stayed : Stays (self.ended .signature .params) (self.ended .kept)
 stayed = (stay-none-slice (0 ∷ []) tt (plain (λ _. u8)) yes, (gave-slice (1 ∷ []) tt (plain (λ _. u8)), tt))
@@ -562,4 +562,4 @@ book-file-spec 𝓤 H 𝓜 𝓖 𝓡 =
     entered 𝓤 H (tripleOf 𝓤 H (𝓖 .A) self.signature (self.spec 𝓤 H (𝓖 .A) (𝓜 .mem) (𝓡 .run)))
     (tables 𝓤 H 𝓜 𝓡 code.env .C) (tables 𝓤 H 𝓜 𝓡 code.env .Λ) #key code.function (code.unfolded 𝓤 H 𝓜 𝓡)
     (meets 𝓤 H (𝓖 .A) (givenOf 𝓤 H 𝓜 𝓖) (𝓜 .mem) (𝓡 .run) (tablesOf 𝓤 H 𝓜 (tables 𝓤 H 𝓜 𝓡 code.env))
-    (cited 𝓤 H (Book 𝓤 H (𝓖 .A) (𝓜 .mem) (𝓡 .run)) 𝓜 𝓡 code.env #book book-def.routine code.calls-booking·bookings·book (book-thm.met 𝓤 H 𝓜 𝓖 𝓡)))
+    (cited 𝓤 H (Book 𝓤 H (𝓖 .A) (𝓜 .mem) (𝓡 .run)) 𝓜 𝓡 code.env #book book-def.routine code.calls-booking·book (book-thm.met 𝓤 H 𝓜 𝓖 𝓡)))

@@ -1,0 +1,2 @@
+-- The definition that the contract of this program's booking cites.
+pub mod Filed
