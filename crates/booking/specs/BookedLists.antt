@@ -20,7 +20,7 @@ use Rattle.order_file.specs.OrderRules.{read-rules, spread-rules}
 use Rattle.order_file.specs.Ordered.{ordered, spreadFrom}
 use Rattle.order_file.specs.OrderedLaws.{is-ordered, found-spread}
 use Rattle.record_list.specs.ListLaws.{stored-answer, stored-none}
-use Rattle.record_list.specs.Lists.{Filled, recordsOf}
+use Rattle.record_list.specs.Lists.{Filled, counted, recordsOf}
 use Rattle.plan_file.specs.Plan.{bucketsOf, readPlan}
 use Rattle.planning.specs.Planning.{Planned, cuttingOf}
 use Rattle.planning.specs.PlannedLaws.{is-planned}
@@ -132,17 +132,12 @@ module _ (bs : List ℕ) (h : Bytes bs) (room space : ℕ) (old called : ListsLe
 
 -- ---- The records stored in the lent lists
 
--- The number of buckets that is answered; none on a refusal.
-abbrev pub bookedCount : Answer Booking → ℕ
-bookedCount (figures x) = x .plan .buckets
-bookedCount (refused n) = 0
-
-module _ (bs : List ℕ) (z : Sizes) (old new : ListsLent) (answer : Answer Booking) (b : BooksLists bs z old new answer) (n : ℕ) (e : n ≡ bookedCount answer) where
+module _ (bs : List ℕ) (z : Sizes) (old new : ListsLent) (answer : Answer Booking) (b : BooksLists bs z old new answer) (n : ℕ) (e : n ≡ counted (λ x. x .plan .buckets) answer) where
   count-found : (s : Steps) → bookedIn z bs ≡ figures s → n ≡ length (s .recording .plan .buckets)
-  count-found s f = e ∙ ap bookedCount (b .answers ∙ ap (onFigures answerOf) f)
+  count-found s f = e ∙ ap (counted (λ x. x .plan .buckets)) (b .answers ∙ ap (onFigures answerOf) f)
 
   count-none : (m : ℕ) → bookedIn z bs ≡ refused m → n ≡ 0
-  count-none m f = e ∙ ap bookedCount (b .answers ∙ ap (onFigures answerOf) f)
+  count-none m f = e ∙ ap (counted (λ x. x .plan .buckets)) (b .answers ∙ ap (onFigures answerOf) f)
 
   -- They fit both lists and the lists that hold their figures.
   pub count-fits : (n ≤ z .plan) × ((n ≤ z .back) × (n ≤ traceLimit))

@@ -5,8 +5,8 @@ use recording::BookingAnswer;
 use terms::BucketRecord;
 use terms::limits::TRACE_LIMIT;
 ghost use mathlib.Core.Path.{_≡_};
+ghost use Rattle.record_list.specs.Lists.{counted};
 ghost use Rattle.recording.specs.Recording.{bookingSays};
-ghost use Rattle.booking.specs.BookedLists.{bookedCount};
 ghost use Rattle.booking.specs.Booking.{lent};
 ghost use Rattle.booking.specs.Claim.{Claim};
 
@@ -54,7 +54,7 @@ pub fn book(
 
 // The number of buckets; none on a refusal.
 fn buckets_of(answer: BookingAnswer) -> usize
-    ensures { λ r. ⌜ r ≡ bookedCount (bookingSays answer) ⌝ }
+    ensures { λ r. ⌜ r ≡ counted (λ x. x .plan .buckets) (bookingSays answer) ⌝ }
 {
     match answer {
         BookingAnswer::Booked(x) => x.plan.buckets as usize,

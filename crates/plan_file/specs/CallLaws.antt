@@ -16,30 +16,21 @@ use Rattle.terms.specs.Limits.{traceLimit}
 use Rattle.terms.specs.Records.{Cutting}
 use Rattle.encoding.specs.Number.{numberAt}
 use Rattle.encoding.specs.NumberLaws.{length-items}
-use Rattle.record_list.specs.ListLaws.{lists-hold}
-use Rattle.record_list.specs.Lists.{RecordLists, Filled, recordsOf, countOf}
+use Rattle.record_list.specs.ListLaws.{counted-on, lists-hold}
+use Rattle.record_list.specs.Lists.{RecordLists, Filled, recordsOf, counted}
 use Rattle.plan_file.specs.declared.plans.PlanFigures.{PlanFigures}
 use Rattle.plan_file.specs.Plan.{Recorded, bucketsOffset, bucketsOf, countsOk, figuresOf, fitting, planFile, planIn, readPlan}
 use Rattle.plan_file.specs.PlanRules.{counts-range, read-rules, write-periods}
-
--- The number of buckets that is answered; none on a refusal.
-abbrev pub countIn : Answer PlanFigures → ℕ
-countIn (figures x) = x .buckets
-countIn (refused n) = 0
 
 module _ (room : ℕ) (bs : List ℕ) where
   abbrev read : Answer Recorded
   read = readPlan room bs
 
-  pub count-is : (r : Answer PlanFigures) (n : ℕ) → r ≡ figuresOf read → n ≡ countIn r → n ≡ countOf (bucketsOf read)
-  count-is r n e f = f ∙ ap countIn e ∙ go read
-    where
-      go : (a : Answer Recorded) → countIn (figuresOf a) ≡ countOf (bucketsOf a)
-      go (figures x) = refl
-      go (refused m) = refl
+  pub count-is : (r : Answer PlanFigures) (n : ℕ) → r ≡ figuresOf read → n ≡ counted (λ x. x .buckets) r → n ≡ counted length (bucketsOf read)
+  count-is r n e f = f ∙ ap (counted (λ x. x .buckets)) e ∙ counted-on (λ x. x .buckets) _ read ∙ sym (counted-on length _ read)
 
   -- The records fit the lent list and the lists that hold their figures.
-  pub count-fits : (n : ℕ) → n ≡ countOf (bucketsOf read) → (n ≤ room) × (n ≤ traceLimit)
+  pub count-fits : (n : ℕ) → n ≡ counted length (bucketsOf read) → (n ≤ room) × (n ≤ traceLimit)
   count-fits n e = go read refl
     where
       go : (a : Answer Recorded) → read ≡ a → (n ≤ room) × (n ≤ traceLimit)
@@ -50,10 +41,10 @@ module _ (room : ℕ) (bs : List ℕ) where
           let r = read-rules bs y (g .1) in
           let c = r .0 .counts in
           let k : length (y .buckets) ≡ numberAt 4 bs 8 = ap (λ (z : Recorded). length (z .buckets)) (r .1) ∙ length-items _ 12 (numberAt 4 bs 8) bucketsOffset in
-          let m : n ≡ length (y .buckets) = e ∙ ap (λ (b : Answer Recorded). countOf (bucketsOf b)) (f ∙ sym (w .1)) in
+          let m : n ≡ length (y .buckets) = e ∙ ap (λ (b : Answer Recorded). counted length (bucketsOf b)) (f ∙ sym (w .1)) in
           (omega (arith, m, leb-true (length (y .buckets)) room (w .0)), omega (arith, m, k, c .few, c .periods .few))
       go (refused m) f =
-          let k : n ≡ 0 = e ∙ ap (λ (b : Answer Recorded). countOf (bucketsOf b)) f in
+          let k : n ≡ 0 = e ∙ ap (λ (b : Answer Recorded). counted length (bucketsOf b)) f in
           (omega (arith, k), omega (arith, k))
 
 -- ---- Writing

@@ -13,7 +13,8 @@ ghost use lib.ListN.{length};
 ghost use Rattle.terms.specs.Answer.{onFigures};
 ghost use Rattle.terms.specs.Lent.{filled};
 ghost use Rattle.encoding.specs.Fill.{fillSays};
-ghost use Rattle.plan_file.specs.CallLaws.{countIn, loadCount};
+ghost use Rattle.record_list.specs.Lists.{counted};
+ghost use Rattle.plan_file.specs.CallLaws.{loadCount};
 ghost use Rattle.plan_file.specs.Plan.{bucketsOf, figuresOf, planSays, readPlan, writePlan};
 
 // What a plan holds beside its bucket records: T, the number of buckets and the cost.
@@ -46,7 +47,7 @@ pub fn read_plan(bytes: &[u8], list: &mut [BucketRecord]) -> PlanAnswer
 
 // The number of buckets; none on a refusal.
 fn buckets_of(answer: PlanAnswer) -> usize
-    ensures { λ r. ⌜ r ≡ countIn (planSays answer) ⌝ }
+    ensures { λ r. ⌜ r ≡ counted (λ x. x .buckets) (planSays answer) ⌝ }
 {
     match answer {
         PlanAnswer::Read(plan) => plan.buckets as usize,

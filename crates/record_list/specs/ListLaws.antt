@@ -8,12 +8,12 @@ use mathlib.Core.List.{List, map}
 use lib.ListN.{length, getD, replicate, length-map, length-replicate, length-drop, length-append, List·getD-append, List·getD-map}
 use lib.Seq.{ext-getD}
 use Rattle.terms.specs.declared.BucketRecord.{BucketRecord}
-use Rattle.terms.specs.Answer.{Answer, figures, refused}
+use Rattle.terms.specs.Answer.{Answer, figures, refused, onFigures}
 use Rattle.terms.specs.Lent.{filled}
 use Rattle.terms.specs.Records.{Cutting, recordOf, runLength, runRate, runDepth}
 use Rattle.encoding.specs.Number.{itemsAt}
 use Rattle.encoding.specs.NumberLaws.{length-items, item-at}
-use Rattle.record_list.specs.Lists.{RecordLists, Wide, listed, recordsOf, roomOf, recorded, Filled, countOf}
+use Rattle.record_list.specs.Lists.{RecordLists, Wide, listed, recordsOf, roomOf, recorded, Filled, counted}
 
 pub record Rooms (n : ℕ) (xs ys zs : List ℕ) : Type 0 where
   pub first : n ≤ length xs
@@ -96,6 +96,11 @@ module _ (xs : Cutting) (old new : RecordLists) (f : Filled (figures xs) old new
 
 -- ---- Records stored in a list of records
 
+-- A number of figures that were worked out from others.
+pub counted-on : {A B : Type 0} (count : B → ℕ) (f : A → B) (a : Answer A) → counted count (onFigures f a) ≡ counted (λ x. count (f x)) a
+counted-on count f (figures x) = refl
+counted-on count f (refused n) = refl
+
 -- No records leave it as it was.
 pub stored-none : (l : RecordLists) (old : Cutting) (n : ℕ) → n ≡ 0 → filled (figures (recordsOf n (l .runs) (l .rates) (l .depths))) old ≡ old
 unfolding itemsAt
@@ -103,7 +108,7 @@ stored-none l old n e = ap (λ (k : ℕ). filled (figures (recordsOf k (l .runs)
 
 -- As many records as an answer has fill it as the answer does.
 pub stored-answer : (a : Answer Cutting) (before after : RecordLists) → Filled a before after
-    → (old : Cutting) (n : ℕ) → n ≡ countOf a → filled (figures (recordsOf n (after .runs) (after .rates) (after .depths))) old ≡ filled a old
+    → (old : Cutting) (n : ℕ) → n ≡ counted length a → filled (figures (recordsOf n (after .runs) (after .rates) (after .depths))) old ≡ filled a old
 stored-answer (figures xs) before after f old n e =
     ap (λ (k : ℕ). filled (figures (recordsOf k (after .runs) (after .rates) (after .depths))) old) e
     ∙ ap (λ (ys : Cutting). filled (figures ys) old) (lists-hold xs before after f)

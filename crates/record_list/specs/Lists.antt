@@ -46,7 +46,7 @@ abbrev pub Filled : Answer Cutting → RecordLists → RecordLists → Type 0
 Filled a old new =
     (new .runs ≡ recorded runLength a (old .runs)) × ((new .rates ≡ recorded runRate a (old .rates)) × (new .depths ≡ recorded runDepth a (old .depths)))
 
--- The number of records of an answer; none on a refusal.
-abbrev pub countOf : Answer Cutting → ℕ
-countOf (figures xs) = length xs
-countOf (refused n) = 0
+-- A number of an answer's figures; none on a refusal.
+abbrev pub counted : {A : Type 0} → (A → ℕ) → Answer A → ℕ
+counted count (figures x) = count x
+counted count (refused n) = 0

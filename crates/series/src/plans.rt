@@ -8,7 +8,7 @@ use terms::limits::TRACE_LIMIT;
 ghost use mathlib.Core.Path.{_≡_};
 ghost use lib.ListN.{length};
 ghost use Rattle.terms.specs.Lent.{filled};
-ghost use Rattle.series.specs.CallLaws.{bucketsOf};
+ghost use Rattle.record_list.specs.Lists.{counted};
 ghost use Rattle.series.specs.Series.{planOf, seriesOf, seriesSays};
 
 // A plan's number of buckets and its cost.
@@ -49,7 +49,7 @@ pub fn series(trace: &[u16], tariff: Tariff, list: &mut [BucketRecord]) -> Serie
 
 // The number of buckets; none on a refusal.
 fn buckets_of(answer: SeriesAnswer) -> usize
-    ensures { λ r. ⌜ r ≡ bucketsOf (seriesSays answer) ⌝ }
+    ensures { λ r. ⌜ r ≡ counted (λ x. x .buckets) (seriesSays answer) ⌝ }
 {
     match answer {
         SeriesAnswer::Found(plan) => plan.buckets as usize,

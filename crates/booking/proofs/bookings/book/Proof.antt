@@ -50,9 +50,9 @@ use Rattle.record_list.proofs.Lent.{Elems, array-in, array-room, lends-mut, mut
 use Rattle.terms.specs.Answer.{figures}
 use Rattle.terms.specs.Lent.{filled}
 use Rattle.recording.specs.Recording.{bookingSays}
-use Rattle.record_list.specs.Lists.{Wide, lists, recordsOf, roomOf}
+use Rattle.record_list.specs.Lists.{Wide, counted, lists, recordsOf, roomOf}
 use Rattle.record_list.specs.ListLaws.{room-is, wide-zeros}
-use Rattle.booking.specs.BookedLists.{BooksLists, bookedCount, count-fits, lists-claim}
+use Rattle.booking.specs.BookedLists.{BooksLists, count-fits, lists-claim}
 use Rattle.booking.specs.CallLaws.{ListsLent, lentLists, sizes}
 use Rattle.terms.specs.declared.BucketRecord.{BucketRecord}
 use Rattle.terms.proofs.BucketRecord as T
@@ -173,7 +173,7 @@ module _ {M : Type 1} (𝓤 : URA M) (H : Heap 𝓤) (A : Atoms 𝓤) (W : Given
   -- As many records are stored as the answer has, and they fit both lists.
   stores : (zs : List ℕ) (new : ListsLent) (r : BookingAnswer) → BooksLists order (sizes (length demands) (length list) (length bytes) (length back))
       (lentLists demands (lists zs zs zs) bytes (lists zs zs zs)) new (bookingSays r)
-      → (n : ℕ) → n ≡ bookedCount (bookingSays r) → (us vs ws : List ℕ) → length us ≡ 512 → length vs ≡ 512 → length ws ≡ 512
+      → (n : ℕ) → n ≡ counted (λ x. x .plan .buckets) (bookingSays r) → (us vs ws : List ℕ) → length us ≡ 512 → length vs ≡ 512 → length ws ≡ 512
       → ((n ≤ length list) × (n ≤ roomOf us vs ws)) × ((n ≤ length back) × (n ≤ roomOf us vs ws))
   stores zs new r b n e us vs ws f g h =
       let k = count-fits order (sizes (length demands) (length list) (length bytes) (length back)) (lentLists demands (lists zs zs zs) bytes (lists zs zs zs))
@@ -218,7 +218,7 @@ module _ {M : Type 1} (𝓤 : URA M) (H : Heap 𝓤) (A : Atoms 𝓤) (W : Given
           (spread lengths rates depths file lengths′ rates′ depths′ : List ℕ) (spread-long : length spread ≡ length demands)
           (file-long : length file ≡ length bytes) (was-booked : BooksLists order (sizes (length demands) (length list) (length bytes) (length back))
           (lentLists demands (lists zeros zeros zeros) bytes (lists zeros zeros zeros)) (lentLists spread (lists lengths rates depths)
-          file (lists lengths′ rates′ depths′)) (bookingSays answer)) (count : ℕ) (counted : count ≡ bookedCount (bookingSays answer))
+          file (lists lengths′ rates′ depths′)) (bookingSays answer)) (count : ℕ) (counted : count ≡ counted (λ x. x .plan .buckets) (bookingSays answer))
           (after : List BucketRecord) (after-long : length after ≡ length list) (stored : after ≡ filled (figures (recordsOf count lengths rates depths)) list)
           (α₁₀ α₁₁ α₁₂ : ℕ) (after′ : List BucketRecord) (after′-long : length after′ ≡ length back)
           (stored-back : after′ ≡ filled (figures (recordsOf count lengths′ rates′ depths′)) back) where
@@ -352,8 +352,8 @@ module _ {M : Type 1} (𝓤 : URA M) (H : Heap 𝓤) (A : Atoms 𝓤) (W : Given
           (depths′-long : length depths′ ≡ 512) (was-booked : BooksLists order (sizes (length demands) (length list) (length bytes) (length back))
           (lentLists demands (lists zeros zeros zeros) bytes (lists zeros zeros zeros)) (lentLists spread (lists lengths rates depths)
           file (lists lengths′ rates′ depths′)) (bookingSays answer)) (count : ℕ) (count-fits : count < 2 ^ 64)
-          (counted : count ≡ bookedCount (bookingSays answer)) (α₇ α₈ α₉ : ℕ) (after : List BucketRecord) (after-long : length after ≡ length list)
-          (stored : after ≡ filled (figures (recordsOf count lengths rates depths)) list) where
+          (counted : count ≡ counted (λ x. x .plan .buckets) (bookingSays answer)) (α₇ α₈ α₉ : ℕ) (after : List BucketRecord)
+          (after-long : length after ≡ length list) (stored : after ≡ filled (figures (recordsOf count lengths rates depths)) list) where
         module _ (α₁₀ α₁₁ α₁₂ : ℕ) (γ′₁₀ γ′₁₁ γ′₁₂ : GName) where
           abbrev to-storing-back : StoreRecords 𝓤 H A at-mem run .Ghost
           to-storing-back = (
@@ -564,7 +564,7 @@ module _ {M : Type 1} (𝓤 : URA M) (H : Heap 𝓤) (A : Atoms 𝓤) (W : Given
           (lengths′-long : length lengths′ ≡ 512) (rates′-long : length rates′ ≡ 512) (depths′-long : length depths′ ≡ 512)
           (was-booked : BooksLists order (sizes (length demands) (length list) (length bytes) (length back)) (lentLists demands (lists zeros zeros zeros)
           bytes (lists zeros zeros zeros)) (lentLists spread (lists lengths rates depths) file (lists lengths′ rates′ depths′)) (bookingSays answer))
-          (count : ℕ) (count-fits : count < 2 ^ 64) (counted : count ≡ bookedCount (bookingSays answer)) where
+          (count : ℕ) (count-fits : count < 2 ^ 64) (counted : count ≡ counted (λ x. x .plan .buckets) (bookingSays answer)) where
         module _ (α₇ α₈ α₉ : ℕ) (γ′₇ γ′₈ γ′₉ : GName) where
           abbrev to-storing : StoreRecords 𝓤 H A at-mem run .Ghost
           to-storing = (
@@ -822,9 +822,9 @@ module _ {M : Type 1} (𝓤 : URA M) (H : Heap 𝓤) (A : Atoms 𝓤) (W : Given
             raw (ensured 𝓤 H A buckets-of.ended (buckets-of.clauses 𝓤 H A at-mem run) tt (answer, tt) tt count)))) (id⊢ 𝓤 _) $ await ! tt $
             pick ! (λ count. split ! $ move ! (1 ∷ []) $
             use1 W (some (λ (last : Lasts buckets-of.ended tt (answer, tt)). ‵ (lasts buckets-of.ended tt (answer, tt) last) ⊛
-            raw (fact 𝓤 (count ≡ bookedCount (bookingSays answer))))) (id⊢ 𝓤 _) $
-            pick ! (λ last. split ! $ move ! (1 ∷ []) $ heard ! (count ≡ bookedCount (bookingSays answer)) (λ counted. fsplit ! $ drop ! $ drop ! $
-            split ! $ move ! (1 ∷ []) $ facts ! usize (Is usize) (shows 𝓤 H A usize) count (count-val ∷ []) (λ count-is. drop ! $
+            raw (fact 𝓤 (count ≡ counted (λ x. x .plan .buckets) (bookingSays answer))))) (id⊢ 𝓤 _) $
+            pick ! (λ last. split ! $ move ! (1 ∷ []) $ heard ! (count ≡ counted (λ x. x .plan .buckets) (bookingSays answer)) (λ counted. fsplit ! $
+            drop ! $ drop ! $ split ! $ move ! (1 ∷ []) $ facts ! usize (Is usize) (shows 𝓤 H A usize) count (count-val ∷ []) (λ count-is. drop ! $
             land ! (from ! (stop !)) (init ! 23 refl ((uint-lawful 𝓤 H A W w64) .typed count (count-val ∷ []) count-is .0)) $
             rewrite ! 23 (λ (v : Val). ‵ (fat fullShare (tyInt w64) l₁₃ 0 v)) (ap only (count-is .0)) refl $
             storing zeros answer answer-val answer-is spread lengths rates depths file lengths′ rates′ depths′ spread-long lengths-long rates-long depths-long file-long lengths′-long rates′-long depths′-long was-booked count (count-is .1) counted)))))

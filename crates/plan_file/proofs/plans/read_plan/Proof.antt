@@ -49,9 +49,9 @@ use native.Mathlib.Nat.{le-trans}
 use Rattle.record_list.proofs.Lent.{Elems, array-in, array-room, lends-mut, mut-back, lends-imm}
 use Rattle.terms.specs.Answer.{figures}
 use Rattle.terms.specs.Lent.{filled}
-use Rattle.record_list.specs.Lists.{Filled, Wide, lists, recordsOf, roomOf, countOf}
+use Rattle.record_list.specs.Lists.{Filled, Wide, lists, recordsOf, roomOf, counted}
 use Rattle.record_list.specs.ListLaws.{stored-answer, room-is, wide-zeros}
-use Rattle.plan_file.specs.CallLaws.{countIn, count-is, count-fits}
+use Rattle.plan_file.specs.CallLaws.{count-is, count-fits}
 use Rattle.plan_file.specs.Plan.{bucketsOf, figuresOf, planSays, readPlan}
 use Rattle.terms.specs.declared.BucketRecord.{BucketRecord}
 use Rattle.terms.proofs.BucketRecord as T
@@ -133,11 +133,11 @@ module _ {M : Type 1} (𝓤 : URA M) (H : Heap 𝓤) (A : Atoms 𝓤) (W : Given
   Post = walkOf 𝓤 H A self.ended stayed (self.clauses 𝓤 H A at-mem run) .post (((κ₀, (κ₁, tt)), (q₀, (q₁, tt)), tt, a, vals), tt)
 
   -- As many records are stored as the answer has, and they fit.
-  is-count : (r : PlanAnswer) (n : ℕ) → planSays r ≡ figuresOf (readPlan (length list) bytes) → n ≡ countIn (planSays r) →
-      n ≡ countOf (bucketsOf (readPlan (length list) bytes))
+  is-count : (r : PlanAnswer) (n : ℕ) → planSays r ≡ figuresOf (readPlan (length list) bytes) → n ≡ counted (λ x. x .buckets) (planSays r) →
+      n ≡ counted length (bucketsOf (readPlan (length list) bytes))
   is-count r n e f = count-is (length list) bytes (planSays r) n e f
 
-  stores : (r : PlanAnswer) (n : ℕ) → planSays r ≡ figuresOf (readPlan (length list) bytes) → n ≡ countIn (planSays r)
+  stores : (r : PlanAnswer) (n : ℕ) → planSays r ≡ figuresOf (readPlan (length list) bytes) → n ≡ counted (λ x. x .buckets) (planSays r)
       → (xs ys zs : List ℕ) → length xs ≡ 512 → length ys ≡ 512 → length zs ≡ 512 → (n ≤ length list) × (n ≤ roomOf xs ys zs)
   stores r n e f xs ys zs g h i =
       let k = count-fits (length list) bytes n (is-count r n e f) in
@@ -159,7 +159,7 @@ module _ {M : Type 1} (𝓤 : URA M) (H : Heap 𝓤) (A : Atoms 𝓤) (W : Given
 
       module _ (zeros : List ℕ) (answer : PlanAnswer) (answer-val : Val) (answer-is : Is An.the-row answer (answer-val ∷ [])) (lengths rates depths : List ℕ)
           (answered : planSays answer ≡ figuresOf (readPlan (length list) bytes)) (was-read : Filled (bucketsOf (readPlan (length list) bytes))
-          (lists zeros zeros zeros) (lists lengths rates depths)) (count : ℕ) (counted : count ≡ countIn (planSays answer)) (α₄ α₅ α₆ : ℕ)
+          (lists zeros zeros zeros) (lists lengths rates depths)) (count : ℕ) (counted : count ≡ counted (λ x. x .buckets) (planSays answer)) (α₄ α₅ α₆ : ℕ)
           (after : List BucketRecord) (after-long : length after ≡ length list) (stored : after ≡ filled (figures (recordsOf count lengths rates depths)) list)
         where
           exits : ent 𝓤 (⋆ 𝓤 H A (‵ (flft κ₀ q₀) ∷ ‵ (flft κ₁ q₁) ∷ ‵ (ShrSlice (named 0) κ₀ u8 .own x₀ (s₀ ∷ [])) ∷ ‵ (finally T.the-row γ₁ after) ∷ []))
@@ -220,7 +220,8 @@ module _ {M : Type 1} (𝓤 : URA M) (H : Heap 𝓤) (A : Atoms 𝓤) (W : Given
       module _ (zeros : List ℕ) (answer : PlanAnswer) (answer-val : Val) (answer-is : Is An.the-row answer (answer-val ∷ [])) (lengths rates depths : List ℕ)
           (lengths-long : length lengths ≡ 512) (rates-long : length rates ≡ 512) (depths-long : length depths ≡ 512)
           (answered : planSays answer ≡ figuresOf (readPlan (length list) bytes)) (was-read : Filled (bucketsOf (readPlan (length list) bytes))
-          (lists zeros zeros zeros) (lists lengths rates depths)) (count : ℕ) (count-fits : count < 2 ^ 64) (counted : count ≡ countIn (planSays answer)) where
+          (lists zeros zeros zeros) (lists lengths rates depths)) (count : ℕ) (count-fits : count < 2 ^ 64) (counted : count ≡ counted (λ x. x .buckets)
+          (planSays answer)) where
         module _ (α₄ α₅ α₆ : ℕ) (γ′₄ γ′₅ γ′₆ : GName) where
           abbrev to-storing : StoreRecords 𝓤 H A at-mem run .Ghost
           to-storing = (
@@ -419,9 +420,9 @@ module _ {M : Type 1} (𝓤 : URA M) (H : Heap 𝓤) (A : Atoms 𝓤) (W : Given
             raw (ensured 𝓤 H A buckets-of.ended (buckets-of.clauses 𝓤 H A at-mem run) tt (answer, tt) tt count)))) (id⊢ 𝓤 _) $ await ! tt $
             pick ! (λ count. split ! $ move ! (1 ∷ []) $
             use1 W (some (λ (last : Lasts buckets-of.ended tt (answer, tt)). ‵ (lasts buckets-of.ended tt (answer, tt) last) ⊛
-            raw (fact 𝓤 (count ≡ countIn (planSays answer))))) (id⊢ 𝓤 _) $
-            pick ! (λ last. split ! $ move ! (1 ∷ []) $ heard ! (count ≡ countIn (planSays answer)) (λ counted. fsplit ! $ drop ! $ drop ! $ split ! $
-            move ! (1 ∷ []) $ facts ! usize (Is usize) (shows 𝓤 H A usize) count (count-val ∷ []) (λ count-is. drop ! $
+            raw (fact 𝓤 (count ≡ counted (λ x. x .buckets) (planSays answer))))) (id⊢ 𝓤 _) $
+            pick ! (λ last. split ! $ move ! (1 ∷ []) $ heard ! (count ≡ counted (λ x. x .buckets) (planSays answer)) (λ counted. fsplit ! $ drop ! $
+            drop ! $ split ! $ move ! (1 ∷ []) $ facts ! usize (Is usize) (shows 𝓤 H A usize) count (count-val ∷ []) (λ count-is. drop ! $
             land ! (from ! (stop !)) (init ! 11 refl ((uint-lawful 𝓤 H A W w64) .typed count (count-val ∷ []) count-is .0)) $
             rewrite ! 11 (λ (v : Val). ‵ (fat fullShare (tyInt w64) l₇ 0 v)) (ap only (count-is .0)) refl $
             storing zeros answer answer-val answer-is lengths rates depths lengths-long rates-long depths-long answered was-read count (count-is .1)

@@ -4,7 +4,6 @@
 -- Assumes nothing.
 use mathlib.Core.Path.{_≡_, refl, _∙_, ap}
 use Prim.Native.Nat.{ℕ, zero, suc, _<_, _≤_, _^_}
-use native.Mathlib.Omega.{arith}
 use mathlib.Core.List.{[], _∷_, List}
 use lib.ListN.{length, replicate, length-replicate}
 use lib.Dec.{T as Holds, lit<}
@@ -51,9 +50,9 @@ use native.Mathlib.Nat.{le-trans}
 use Rattle.record_list.proofs.Lent.{Elems, array-in, array-room, lends-mut, mut-back, lends-imm}
 use Rattle.terms.specs.Answer.{figures}
 use Rattle.terms.specs.Lent.{filled}
-use Rattle.record_list.specs.Lists.{Filled, Wide, lists, recordsOf, roomOf, countOf}
-use Rattle.record_list.specs.ListLaws.{stored-answer}
-use Rattle.series.specs.CallLaws.{bucketsOf, count-is, count-fits}
+use Rattle.record_list.specs.Lists.{Filled, Wide, lists, recordsOf, roomOf, counted}
+use Rattle.record_list.specs.ListLaws.{stored-answer, room-is, wide-zeros}
+use Rattle.series.specs.CallLaws.{count-is, count-fits}
 use Rattle.series.specs.Series.{planOf, seriesOf, seriesSays}
 use Rattle.terms.specs.declared.BucketRecord.{BucketRecord}
 use Rattle.terms.proofs.BucketRecord as T
@@ -98,13 +97,6 @@ zeros-are n = (replicate n (vint w32 0), ((refl, length-replicate n 0), each-zer
 room-u32-512 : Room u32 512
 room-u32-512 = (lit< tt, lit< tt)
 
--- Three lists of one length have that room.
-room-is : (n : ℕ) (xs ys zs : List ℕ) → length xs ≡ n → length ys ≡ n → length zs ≡ n → n ≤ roomOf xs ys zs
-room-is n xs ys zs e f g = omega (arith, e, f, g)
-
-wide-zeros : Wide (replicate 512 0) (replicate 512 0) (replicate 512 0)
-wide-zeros = let e = length-replicate {A = ℕ} 512 0 in room-is 512 (replicate 512 0) (replicate 512 0) (replicate 512 0) e e e
-
 module _ {M : Type 1} (𝓤 : URA M) (H : Heap 𝓤) (A : Atoms 𝓤) (at-mem : Memory → SProp 𝓤) (run : Routine → Fun 𝓤) where
   -- The contracts that the proof cites.
   abbrev PlanLists : Contract 𝓤
@@ -145,11 +137,11 @@ module _ {M : Type 1} (𝓤 : URA M) (H : Heap 𝓤) (A : Atoms 𝓤) (W : Given
   Post = walkOf 𝓤 H A self.ended stayed (self.clauses 𝓤 H A at-mem run) .post (((κ₀, (κ₁, tt)), (q₀, (q₁, tt)), tt, a, vals), tt)
 
   -- As many records are stored as the answer has, and they fit.
-  is-count : (r : SeriesAnswer) (n : ℕ) → seriesSays r ≡ planOf tariff (seriesOf tariff (length list) trace) → n ≡ bucketsOf (seriesSays r) →
-      n ≡ countOf (seriesOf tariff (length list) trace)
+  is-count : (r : SeriesAnswer) (n : ℕ) → seriesSays r ≡ planOf tariff (seriesOf tariff (length list) trace) → n ≡ counted (λ x. x .buckets) (seriesSays r) →
+      n ≡ counted length (seriesOf tariff (length list) trace)
   is-count r n e f = count-is tariff (length list) trace (seriesSays r) n e f
 
-  stores : (r : SeriesAnswer) (n : ℕ) → seriesSays r ≡ planOf tariff (seriesOf tariff (length list) trace) → n ≡ bucketsOf (seriesSays r)
+  stores : (r : SeriesAnswer) (n : ℕ) → seriesSays r ≡ planOf tariff (seriesOf tariff (length list) trace) → n ≡ counted (λ x. x .buckets) (seriesSays r)
       → (xs ys zs : List ℕ) → length xs ≡ 512 → length ys ≡ 512 → length zs ≡ 512 → (n ≤ length list) × (n ≤ roomOf xs ys zs)
   stores r n e f xs ys zs g h i =
       let k = count-fits tariff (length list) trace n (is-count r n e f) in
@@ -171,7 +163,7 @@ module _ {M : Type 1} (𝓤 : URA M) (H : Heap 𝓤) (A : Atoms 𝓤) (W : Given
 
       module _ (zeros : List ℕ) (answer : SeriesAnswer) (answer-val : Val) (answer-is : Is An.the-row answer (answer-val ∷ [])) (lengths rates depths : List ℕ)
           (answered : seriesSays answer ≡ planOf tariff (seriesOf tariff (length list) trace)) (planned : Filled (seriesOf tariff (length list) trace)
-          (lists zeros zeros zeros) (lists lengths rates depths)) (count : ℕ) (counted : count ≡ bucketsOf (seriesSays answer)) (α₄ α₅ α₆ : ℕ)
+          (lists zeros zeros zeros) (lists lengths rates depths)) (count : ℕ) (counted : count ≡ counted (λ x. x .buckets) (seriesSays answer)) (α₄ α₅ α₆ : ℕ)
           (after : List BucketRecord) (after-long : length after ≡ length list) (stored : after ≡ filled (figures (recordsOf count lengths rates depths)) list)
         where
           exits : ent 𝓤 (⋆ 𝓤 H A (‵ (flft κ₀ q₀) ∷ ‵ (flft κ₁ q₁) ∷ ‵ (ShrSlice (named 0) κ₀ u16 .own x₀ (s₀ ∷ [])) ∷ ‵ (finally T.the-row γ₁ after) ∷ []))
@@ -234,121 +226,16 @@ module _ {M : Type 1} (𝓤 : URA M) (H : Heap 𝓤) (A : Atoms 𝓤) (W : Given
       module _ (zeros : List ℕ) (answer : SeriesAnswer) (answer-val : Val) (answer-is : Is An.the-row answer (answer-val ∷ [])) (lengths rates depths : List ℕ)
           (lengths-long : length lengths ≡ 512) (rates-long : length rates ≡ 512) (depths-long : length depths ≡ 512)
           (answered : seriesSays answer ≡ planOf tariff (seriesOf tariff (length list) trace)) (planned : Filled (seriesOf tariff (length list) trace)
-          (lists zeros zeros zeros) (lists lengths rates depths)) (count : ℕ) (count-fits : count < 2 ^ 64) (counted : count ≡ bucketsOf (seriesSays answer))
-        where
-          module _ (α₄ α₅ α₆ : ℕ) (γ′₄ γ′₅ γ′₆ : GName) where
-            abbrev to-storing : StoreRecords 𝓤 H A at-mem run .Ghost
-            to-storing = (
-              (
-                (κ₁, (α₄ ∷ [], (α₅ ∷ [], (α₆ ∷ [], tt)))),
-                (q₁, (fullShare, (fullShare, (fullShare, tt)))),
-                tt,
-                (
-                  x₁,
-                  (
-                    (record {
-                      ptr = (l₄, 0);
-                      name = γ′₄;
-                      now = lengths;
-                    }),
-                    (
-                      (record { ptr = (l₅, 0); name = γ′₅; now = rates }),
-                      (
-                        (record { ptr = (l₆, 0); name = γ′₆; now = depths }),
-                        (count, tt),
-                      ),
-                    ),
-                  ),
-                ),
-                (s₁ ∷ [], (sliceVal (l₄, 0) 512 ∷ [], (sliceVal (l₅, 0) 512 ∷ [], (sliceVal (l₆, 0) 512 ∷ [], (vint w64 count ∷ [], tt))))),
-              ),
+          (lists zeros zeros zeros) (lists lengths rates depths)) (count : ℕ) (count-fits : count < 2 ^ 64) (counted : count ≡ counted (λ x. x .buckets)
+          (seriesSays answer)) where
+        module _ (α₄ α₅ α₆ : ℕ) (γ′₄ γ′₅ γ′₆ : GName) where
+          abbrev to-storing : StoreRecords 𝓤 H A at-mem run .Ghost
+          to-storing = (
+            (
+              (κ₁, (α₄ ∷ [], (α₅ ∷ [], (α₆ ∷ [], tt)))),
+              (q₁, (fullShare, (fullShare, (fullShare, tt)))),
               tt,
-            )
-
-            goes-storing : ent 𝓤 (sep 𝓤 (sep 𝓤 (A .lft κ₁ q₁) (sep 𝓤 (A .lft (α₄ ∷ []) fullShare) (sep 𝓤 (A .lft (α₅ ∷ []) fullShare) (sep 𝓤 (A .lft (α₆ ∷ [])
-                fullShare) (sem 𝓤 H A ftrue))))) (sem 𝓤 H A (owns (MutSlice (named 0) κ₁ T.the-row ∷ ShrSlice (named 1) (α₄ ∷ []) u32 ∷ ShrSlice (named 2) (α₅ ∷
-                []) u32 ∷ ShrSlice (named 3) (α₆ ∷ []) u32 ∷ usize ∷ []) (to-storing .0 .3) (to-storing .0 .4)))) (StoreRecords 𝓤 H A at-mem run .pre to-storing)
-            goes-storing =
-                qed W ((‵ (flft κ₁ q₁) ⊛ ‵ (flft (α₄ ∷ []) fullShare) ⊛ ‵ (flft (α₅ ∷ []) fullShare) ⊛ ‵ (flft (α₆ ∷ []) fullShare) ⊛ ‵ ftrue) ∷
-                ‵ (owns (MutSlice (named 0) κ₁ T.the-row ∷ ShrSlice (named 1) (α₄ ∷ []) u32 ∷ ShrSlice (named 2) (α₅ ∷ []) u32 ∷ ShrSlice (named 3) (α₆ ∷ [])
-                u32 ∷ usize ∷ []) (to-storing .0 .3) (to-storing .0 .4)) ∷ []) ∵
-                says ! (stores answer count answered counted lengths rates depths lengths-long rates-long depths-long) $ frame ! $ done !
-
-          storing : Sq W (‵ (Elems 𝓤 H A W u32 512 l₆ depths) ∷ ‵ (Elems 𝓤 H A W u32 512 l₅ rates) ∷ ‵ (Elems 𝓤 H A W u32 512 l₄ lengths) ∷ ‵ (flft κ₀ q₀) ∷
-              ‵ (ShrSlice (named 0) κ₀ u16 .own x₀ (s₀ ∷ [])) ∷ ‵ (MutSlice (named 1) κ₁ T.the-row .own x₁ (s₁ ∷ [])) ∷ ‵ (flft κ₁ q₁) ∷ ‵ (froom An′.mir l₀ 0) ∷
-              ‵ (froom (sliceTy (tyRef (named 0) imm (tyInt w16))) l₁ 0) ∷ ‵ (froom Ta′.mir l₂ 0) ∷ ‵ (fat fullShare (sliceTy (tyRef (named 1)
-              mut (pointee (T.the-row .written)))) l₃ 0 s₁) ∷ ‵ (fat fullShare An′.mir l₇ 0 answer-val) ∷ ‵ (fat fullShare (tyInt w64) l₈ 0 (vint w64 count)) ∷
-              ‵ (froom (tyInt w64) l₉ 0) ∷ ‵ (froom (tyRef erased mut (tyArray (tyInt w32) 512)) l₁₀ 0) ∷ ‵ (froom (sliceTy (tyRef erased mut (tyInt w32)))
-              l₁₁ 0) ∷ ‵ (froom (tyRef erased mut (tyArray (tyInt w32) 512)) l₁₂ 0) ∷ ‵ (froom (sliceTy (tyRef erased mut (tyInt w32))) l₁₃ 0) ∷
-              ‵ (froom (tyRef erased mut (tyArray (tyInt w32) 512)) l₁₄ 0) ∷ ‵ (froom (sliceTy (tyRef erased mut (tyInt w32))) l₁₅ 0) ∷ ‵ (froom tyUnit l₁₆ 0) ∷
-              ‵ (froom (tyRef erased mut (pointee (T.the-row .written))) l₁₇ 0) ∷ ‵ (froom (sliceTy (tyRef erased mut (pointee (T.the-row .written)))) l₁₈ 0) ∷
-              ‵ (froom (tyRef erased imm (tyArray (tyInt w32) 512)) l₁₉ 0) ∷ ‵ (froom (sliceTy (tyRef erased imm (tyInt w32))) l₂₀ 0) ∷
-              ‵ (froom (tyRef erased imm (tyArray (tyInt w32) 512)) l₂₁ 0) ∷ ‵ (froom (sliceTy (tyRef erased imm (tyInt w32))) l₂₂ 0) ∷
-              ‵ (froom (tyRef erased imm (tyArray (tyInt w32) 512)) l₂₃ 0) ∷ ‵ (froom (sliceTy (tyRef erased imm (tyInt w32))) l₂₄ 0) ∷ ‵ (fdies An′.mir l₀) ∷
-              ‵ (fdies (sliceTy (tyRef (named 0) imm (tyInt w16))) l₁) ∷ ‵ (fdies Ta′.mir l₂) ∷ ‵ (fdies (sliceTy (tyRef (named 1)
-              mut (pointee (T.the-row .written)))) l₃) ∷ ‵ (fdies (tyArray (tyInt w32) 512) l₄) ∷ ‵ (fdies (tyArray (tyInt w32) 512) l₅) ∷
-              ‵ (fdies (tyArray (tyInt w32) 512) l₆) ∷ ‵ (fdies An′.mir l₇) ∷ ‵ (fdies (tyInt w64) l₈) ∷ ‵ (fdies (tyInt w64) l₉) ∷
-              ‵ (fdies (tyRef erased mut (tyArray (tyInt w32) 512)) l₁₀) ∷ ‵ (fdies (sliceTy (tyRef erased mut (tyInt w32))) l₁₁) ∷
-              ‵ (fdies (tyRef erased mut (tyArray (tyInt w32) 512)) l₁₂) ∷ ‵ (fdies (sliceTy (tyRef erased mut (tyInt w32))) l₁₃) ∷
-              ‵ (fdies (tyRef erased mut (tyArray (tyInt w32) 512)) l₁₄) ∷ ‵ (fdies (sliceTy (tyRef erased mut (tyInt w32))) l₁₅) ∷ ‵ (fdies tyUnit l₁₆) ∷
-              ‵ (fdies (tyRef erased mut (pointee (T.the-row .written))) l₁₇) ∷ ‵ (fdies (sliceTy (tyRef erased mut (pointee (T.the-row .written)))) l₁₈) ∷
-              ‵ (fdies (tyRef erased imm (tyArray (tyInt w32) 512)) l₁₉) ∷ ‵ (fdies (sliceTy (tyRef erased imm (tyInt w32))) l₂₀) ∷
-              ‵ (fdies (tyRef erased imm (tyArray (tyInt w32) 512)) l₂₁) ∷ ‵ (fdies (sliceTy (tyRef erased imm (tyInt w32))) l₂₂) ∷
-              ‵ (fdies (tyRef erased imm (tyArray (tyInt w32) 512)) l₂₃) ∷ ‵ (fdies (sliceTy (tyRef erased imm (tyInt w32))) l₂₄) ∷ [])
-              (runs C Λ E mir.t-13 (atRet E Post))
-          storing =
-              assigns ! (addr ! (from ! (fld ! refl (hop ! (look-in ! 10 (sub ! 0 refl (whole !))) (stop !))))) (from ! (stop !)) (init ! 21 refl (tt, tt)) $
-              assigns ! (agg ! (and-then ! (load ! (from ! (stop !)) (look ! 21 refl)) (and-then ! (load ! (from ! (fld ! refl (stop !)))
-              (look-in ! 10 (sub ! 1 refl (whole !)))) (no-more !)))) (from ! (stop !)) (init ! 22 refl (tt, (tt, (record { fits = room₁ .0 }, tt)))) $
-              assigns ! (addr ! (from ! (stop !))) (from ! (stop !)) (init ! 23 refl (tt, tt)) $
-              assigns ! (agg ! (and-then ! (load ! (from ! (stop !)) (look ! 23 refl)) (and-then ! (lit ! tt) (no-more !)))) (from ! (stop !))
-              (init ! 24 refl (tt, (tt, (record { fits = lit< tt }, tt)))) $
-              assigns ! (addr ! (from ! (stop !))) (from ! (stop !)) (init ! 25 refl (tt, tt)) $
-              assigns ! (agg ! (and-then ! (load ! (from ! (stop !)) (look ! 25 refl)) (and-then ! (lit ! tt) (no-more !)))) (from ! (stop !))
-              (init ! 26 refl (tt, (tt, (record { fits = lit< tt }, tt)))) $
-              assigns ! (addr ! (from ! (stop !))) (from ! (stop !)) (init ! 27 refl (tt, tt)) $
-              assigns ! (agg ! (and-then ! (load ! (from ! (stop !)) (look ! 27 refl)) (and-then ! (lit ! tt) (no-more !)))) (from ! (stop !))
-              (init ! 28 refl (tt, (tt, (record { fits = lit< tt }, tt)))) $
-              lft-new ! tt (λ α₄. move ! (3 ∷ []) $
-              use1 W (later (some (λ (γ : GName). ‵ (ShrSlice (named 1) (α₄ ∷ []) u32 .own (record { ptr = (l₄, 0); name = γ; now = lengths }) (sliceVal (l₄, 0)
-              512 ∷ [])) ⊛ ‵ (flent (α₄ ∷ []) (Elems 𝓤 H A W u32 512 l₄ lengths))))) (lends-imm 𝓤 H A W u32 512 l₄ (named 1) (α₄ ∷ []) lengths room-u32-512) $
-              await ! tt $
-              pick ! (λ γ′₄. split ! $ lft-new ! tt (λ α₅. move ! (5 ∷ []) $
-              use1 W (later (some (λ (γ : GName). ‵ (ShrSlice (named 2) (α₅ ∷ []) u32 .own (record { ptr = (l₅, 0); name = γ; now = rates }) (sliceVal (l₅, 0)
-              512 ∷ [])) ⊛ ‵ (flent (α₅ ∷ []) (Elems 𝓤 H A W u32 512 l₅ rates))))) (lends-imm 𝓤 H A W u32 512 l₅ (named 2) (α₅ ∷ []) rates room-u32-512) $
-              await ! tt $
-              pick ! (λ γ′₅. split ! $ lft-new ! tt (λ α₆. move ! (7 ∷ []) $
-              use1 W (later (some (λ (γ : GName). ‵ (ShrSlice (named 3) (α₆ ∷ []) u32 .own (record { ptr = (l₆, 0); name = γ; now = depths }) (sliceVal (l₆, 0)
-              512 ∷ [])) ⊛ ‵ (flent (α₆ ∷ []) (Elems 𝓤 H A W u32 512 l₆ depths))))) (lends-imm 𝓤 H A W u32 512 l₆ (named 3) (α₆ ∷ []) depths room-u32-512) $
-              await ! tt $
-              pick ! (λ γ′₆. split ! $ nothing ! $ move ! (3 ∷ 0 ∷ []) $ join ! $ move ! (5 ∷ 0 ∷ []) $ join ! $ move ! (7 ∷ 0 ∷ []) $ join ! $
-              move ! (10 ∷ 0 ∷ []) $ join ! $ nothing ! $ owned ! usize (Is usize) (uint-makes 𝓤 H A W w64) count (vint w64 count ∷ []) (refl, count-fits) $
-              fjoin ! $ move ! (2 ∷ 0 ∷ []) $ fjoin ! $ move ! (3 ∷ 0 ∷ []) $ fjoin ! $ move ! (4 ∷ 0 ∷ []) $ fjoin ! $ move ! (7 ∷ 0 ∷ []) $ fjoin ! $
-              move ! (1 ∷ 0 ∷ []) $
-              use2 W (raw (StoreRecords 𝓤 H A at-mem run .pre (to-storing α₄ α₅ α₆ γ′₄ γ′₅ γ′₆))) (goes-storing α₄ α₅ α₆ γ′₄ γ′₅ γ′₆) $
-              calls-at ! fm (StoreRecords 𝓤 H A at-mem run) known-store-records (to-storing α₄ α₅ α₆ γ′₄ γ′₅ γ′₆) (and-then ! (load ! (from ! (stop !))
-              (look ! 21 refl)) (and-then ! (load ! (from ! (stop !)) (look ! 23 refl)) (and-then ! (load ! (from ! (stop !)) (look ! 25 refl))
-              (and-then ! (load ! (from ! (stop !)) (look ! 27 refl)) (and-then ! (load ! (from ! (stop !)) (look ! 11 refl)) (no-more !)))))) (λ u-val.
-              use1 W (later (some (λ (u : Unit {0}). ((‵ (flft κ₁ q₁) ⊛ ‵ (flft (α₄ ∷ []) fullShare) ⊛ ‵ (flft (α₅ ∷ []) fullShare) ⊛ ‵ (flft (α₆ ∷ [])
-              fullShare) ⊛ ‵ ftrue) ⊛ ‵ (unit .own u (u-val ∷ []))) ⊛ raw (ensured 𝓤 H A store-records.ended (store-records.clauses 𝓤 H A at-mem run) (
-                κ₁,
-                (
-                  α₄ ∷
-                      [],
-                  (α₅ ∷ [], (α₆ ∷ [], tt)),
-                ),
-              ) (
-                x₁,
-                (
-                  (record { ptr = (l₄, 0); name = γ′₄; now = lengths }),
-                  (
-                    (record { ptr = (l₅, 0); name = γ′₅; now = rates }),
-                    ((record { ptr = (l₆, 0); name = γ′₆; now = depths }), (count, tt)),
-                  ),
-                ),
-              ) tt u)))) (id⊢ 𝓤 _) $ await ! tt $
-              pick ! (λ u. split ! $ move ! (1 ∷ []) $
-              use1 W (some (λ (last : Lasts store-records.ended (κ₁, (α₄ ∷ [], (α₅ ∷ [], (α₆ ∷ [], tt)))) (
+              (
                 x₁,
                 (
                   (record {
@@ -360,29 +247,134 @@ module _ {M : Type 1} (𝓤 : URA M) (H : Heap 𝓤) (A : Atoms 𝓤) (W : Given
                     (record { ptr = (l₅, 0); name = γ′₅; now = rates }),
                     (
                       (record { ptr = (l₆, 0); name = γ′₆; now = depths }),
-                      (
-                        count,
-                        tt,
-                      ),
+                      (count, tt),
                     ),
                   ),
                 ),
-              )). ‵ (lasts store-records.ended (κ₁, (α₄ ∷ [], (α₅ ∷ [], (α₆ ∷ [], tt)))) (
-                x₁,
+              ),
+              (s₁ ∷ [], (sliceVal (l₄, 0) 512 ∷ [], (sliceVal (l₅, 0) 512 ∷ [], (sliceVal (l₆, 0) 512 ∷ [], (vint w64 count ∷ [], tt))))),
+            ),
+            tt,
+          )
+
+          goes-storing : ent 𝓤 (sep 𝓤 (sep 𝓤 (A .lft κ₁ q₁) (sep 𝓤 (A .lft (α₄ ∷ []) fullShare) (sep 𝓤 (A .lft (α₅ ∷ []) fullShare) (sep 𝓤 (A .lft (α₆ ∷ [])
+              fullShare) (sem 𝓤 H A ftrue))))) (sem 𝓤 H A (owns (MutSlice (named 0) κ₁ T.the-row ∷ ShrSlice (named 1) (α₄ ∷ []) u32 ∷ ShrSlice (named 2) (α₅ ∷
+              []) u32 ∷ ShrSlice (named 3) (α₆ ∷ []) u32 ∷ usize ∷ []) (to-storing .0 .3) (to-storing .0 .4)))) (StoreRecords 𝓤 H A at-mem run .pre to-storing)
+          goes-storing =
+              qed W ((‵ (flft κ₁ q₁) ⊛ ‵ (flft (α₄ ∷ []) fullShare) ⊛ ‵ (flft (α₅ ∷ []) fullShare) ⊛ ‵ (flft (α₆ ∷ []) fullShare) ⊛ ‵ ftrue) ∷
+              ‵ (owns (MutSlice (named 0) κ₁ T.the-row ∷ ShrSlice (named 1) (α₄ ∷ []) u32 ∷ ShrSlice (named 2) (α₅ ∷ []) u32 ∷ ShrSlice (named 3) (α₆ ∷ [])
+              u32 ∷ usize ∷ []) (to-storing .0 .3) (to-storing .0 .4)) ∷ []) ∵
+              says ! (stores answer count answered counted lengths rates depths lengths-long rates-long depths-long) $ frame ! $ done !
+
+        storing : Sq W (‵ (Elems 𝓤 H A W u32 512 l₆ depths) ∷ ‵ (Elems 𝓤 H A W u32 512 l₅ rates) ∷ ‵ (Elems 𝓤 H A W u32 512 l₄ lengths) ∷ ‵ (flft κ₀ q₀) ∷
+            ‵ (ShrSlice (named 0) κ₀ u16 .own x₀ (s₀ ∷ [])) ∷ ‵ (MutSlice (named 1) κ₁ T.the-row .own x₁ (s₁ ∷ [])) ∷ ‵ (flft κ₁ q₁) ∷ ‵ (froom An′.mir l₀ 0) ∷
+            ‵ (froom (sliceTy (tyRef (named 0) imm (tyInt w16))) l₁ 0) ∷ ‵ (froom Ta′.mir l₂ 0) ∷ ‵ (fat fullShare (sliceTy (tyRef (named 1)
+            mut (pointee (T.the-row .written)))) l₃ 0 s₁) ∷ ‵ (fat fullShare An′.mir l₇ 0 answer-val) ∷ ‵ (fat fullShare (tyInt w64) l₈ 0 (vint w64 count)) ∷
+            ‵ (froom (tyInt w64) l₉ 0) ∷ ‵ (froom (tyRef erased mut (tyArray (tyInt w32) 512)) l₁₀ 0) ∷ ‵ (froom (sliceTy (tyRef erased mut (tyInt w32)))
+            l₁₁ 0) ∷ ‵ (froom (tyRef erased mut (tyArray (tyInt w32) 512)) l₁₂ 0) ∷ ‵ (froom (sliceTy (tyRef erased mut (tyInt w32))) l₁₃ 0) ∷
+            ‵ (froom (tyRef erased mut (tyArray (tyInt w32) 512)) l₁₄ 0) ∷ ‵ (froom (sliceTy (tyRef erased mut (tyInt w32))) l₁₅ 0) ∷ ‵ (froom tyUnit l₁₆ 0) ∷
+            ‵ (froom (tyRef erased mut (pointee (T.the-row .written))) l₁₇ 0) ∷ ‵ (froom (sliceTy (tyRef erased mut (pointee (T.the-row .written)))) l₁₈ 0) ∷
+            ‵ (froom (tyRef erased imm (tyArray (tyInt w32) 512)) l₁₉ 0) ∷ ‵ (froom (sliceTy (tyRef erased imm (tyInt w32))) l₂₀ 0) ∷
+            ‵ (froom (tyRef erased imm (tyArray (tyInt w32) 512)) l₂₁ 0) ∷ ‵ (froom (sliceTy (tyRef erased imm (tyInt w32))) l₂₂ 0) ∷
+            ‵ (froom (tyRef erased imm (tyArray (tyInt w32) 512)) l₂₃ 0) ∷ ‵ (froom (sliceTy (tyRef erased imm (tyInt w32))) l₂₄ 0) ∷ ‵ (fdies An′.mir l₀) ∷
+            ‵ (fdies (sliceTy (tyRef (named 0) imm (tyInt w16))) l₁) ∷ ‵ (fdies Ta′.mir l₂) ∷ ‵ (fdies (sliceTy (tyRef (named 1)
+            mut (pointee (T.the-row .written)))) l₃) ∷ ‵ (fdies (tyArray (tyInt w32) 512) l₄) ∷ ‵ (fdies (tyArray (tyInt w32) 512) l₅) ∷
+            ‵ (fdies (tyArray (tyInt w32) 512) l₆) ∷ ‵ (fdies An′.mir l₇) ∷ ‵ (fdies (tyInt w64) l₈) ∷ ‵ (fdies (tyInt w64) l₉) ∷
+            ‵ (fdies (tyRef erased mut (tyArray (tyInt w32) 512)) l₁₀) ∷ ‵ (fdies (sliceTy (tyRef erased mut (tyInt w32))) l₁₁) ∷
+            ‵ (fdies (tyRef erased mut (tyArray (tyInt w32) 512)) l₁₂) ∷ ‵ (fdies (sliceTy (tyRef erased mut (tyInt w32))) l₁₃) ∷
+            ‵ (fdies (tyRef erased mut (tyArray (tyInt w32) 512)) l₁₄) ∷ ‵ (fdies (sliceTy (tyRef erased mut (tyInt w32))) l₁₅) ∷ ‵ (fdies tyUnit l₁₆) ∷
+            ‵ (fdies (tyRef erased mut (pointee (T.the-row .written))) l₁₇) ∷ ‵ (fdies (sliceTy (tyRef erased mut (pointee (T.the-row .written)))) l₁₈) ∷
+            ‵ (fdies (tyRef erased imm (tyArray (tyInt w32) 512)) l₁₉) ∷ ‵ (fdies (sliceTy (tyRef erased imm (tyInt w32))) l₂₀) ∷
+            ‵ (fdies (tyRef erased imm (tyArray (tyInt w32) 512)) l₂₁) ∷ ‵ (fdies (sliceTy (tyRef erased imm (tyInt w32))) l₂₂) ∷
+            ‵ (fdies (tyRef erased imm (tyArray (tyInt w32) 512)) l₂₃) ∷ ‵ (fdies (sliceTy (tyRef erased imm (tyInt w32))) l₂₄) ∷ [])
+            (runs C Λ E mir.t-13 (atRet E Post))
+        storing =
+            assigns ! (addr ! (from ! (fld ! refl (hop ! (look-in ! 10 (sub ! 0 refl (whole !))) (stop !))))) (from ! (stop !)) (init ! 21 refl (tt, tt)) $
+            assigns ! (agg ! (and-then ! (load ! (from ! (stop !)) (look ! 21 refl)) (and-then ! (load ! (from ! (fld ! refl (stop !)))
+            (look-in ! 10 (sub ! 1 refl (whole !)))) (no-more !)))) (from ! (stop !)) (init ! 22 refl (tt, (tt, (record { fits = room₁ .0 }, tt)))) $
+            assigns ! (addr ! (from ! (stop !))) (from ! (stop !)) (init ! 23 refl (tt, tt)) $
+            assigns ! (agg ! (and-then ! (load ! (from ! (stop !)) (look ! 23 refl)) (and-then ! (lit ! tt) (no-more !)))) (from ! (stop !))
+            (init ! 24 refl (tt, (tt, (record { fits = lit< tt }, tt)))) $
+            assigns ! (addr ! (from ! (stop !))) (from ! (stop !)) (init ! 25 refl (tt, tt)) $
+            assigns ! (agg ! (and-then ! (load ! (from ! (stop !)) (look ! 25 refl)) (and-then ! (lit ! tt) (no-more !)))) (from ! (stop !))
+            (init ! 26 refl (tt, (tt, (record { fits = lit< tt }, tt)))) $
+            assigns ! (addr ! (from ! (stop !))) (from ! (stop !)) (init ! 27 refl (tt, tt)) $
+            assigns ! (agg ! (and-then ! (load ! (from ! (stop !)) (look ! 27 refl)) (and-then ! (lit ! tt) (no-more !)))) (from ! (stop !))
+            (init ! 28 refl (tt, (tt, (record { fits = lit< tt }, tt)))) $
+            lft-new ! tt (λ α₄. move ! (3 ∷ []) $
+            use1 W (later (some (λ (γ : GName). ‵ (ShrSlice (named 1) (α₄ ∷ []) u32 .own (record { ptr = (l₄, 0); name = γ; now = lengths }) (sliceVal (l₄, 0)
+            512 ∷ [])) ⊛ ‵ (flent (α₄ ∷ []) (Elems 𝓤 H A W u32 512 l₄ lengths))))) (lends-imm 𝓤 H A W u32 512 l₄ (named 1) (α₄ ∷ []) lengths room-u32-512) $
+            await ! tt $
+            pick ! (λ γ′₄. split ! $ lft-new ! tt (λ α₅. move ! (5 ∷ []) $
+            use1 W (later (some (λ (γ : GName). ‵ (ShrSlice (named 2) (α₅ ∷ []) u32 .own (record { ptr = (l₅, 0); name = γ; now = rates }) (sliceVal (l₅, 0)
+            512 ∷ [])) ⊛ ‵ (flent (α₅ ∷ []) (Elems 𝓤 H A W u32 512 l₅ rates))))) (lends-imm 𝓤 H A W u32 512 l₅ (named 2) (α₅ ∷ []) rates room-u32-512) $
+            await ! tt $
+            pick ! (λ γ′₅. split ! $ lft-new ! tt (λ α₆. move ! (7 ∷ []) $
+            use1 W (later (some (λ (γ : GName). ‵ (ShrSlice (named 3) (α₆ ∷ []) u32 .own (record { ptr = (l₆, 0); name = γ; now = depths }) (sliceVal (l₆, 0)
+            512 ∷ [])) ⊛ ‵ (flent (α₆ ∷ []) (Elems 𝓤 H A W u32 512 l₆ depths))))) (lends-imm 𝓤 H A W u32 512 l₆ (named 3) (α₆ ∷ []) depths room-u32-512) $
+            await ! tt $
+            pick ! (λ γ′₆. split ! $ nothing ! $ move ! (3 ∷ 0 ∷ []) $ join ! $ move ! (5 ∷ 0 ∷ []) $ join ! $ move ! (7 ∷ 0 ∷ []) $ join ! $
+            move ! (10 ∷ 0 ∷ []) $ join ! $ nothing ! $ owned ! usize (Is usize) (uint-makes 𝓤 H A W w64) count (vint w64 count ∷ []) (refl, count-fits) $
+            fjoin ! $ move ! (2 ∷ 0 ∷ []) $ fjoin ! $ move ! (3 ∷ 0 ∷ []) $ fjoin ! $ move ! (4 ∷ 0 ∷ []) $ fjoin ! $ move ! (7 ∷ 0 ∷ []) $ fjoin ! $
+            move ! (1 ∷ 0 ∷ []) $
+            use2 W (raw (StoreRecords 𝓤 H A at-mem run .pre (to-storing α₄ α₅ α₆ γ′₄ γ′₅ γ′₆))) (goes-storing α₄ α₅ α₆ γ′₄ γ′₅ γ′₆) $
+            calls-at ! fm (StoreRecords 𝓤 H A at-mem run) known-store-records (to-storing α₄ α₅ α₆ γ′₄ γ′₅ γ′₆) (and-then ! (load ! (from ! (stop !))
+            (look ! 21 refl)) (and-then ! (load ! (from ! (stop !)) (look ! 23 refl)) (and-then ! (load ! (from ! (stop !)) (look ! 25 refl))
+            (and-then ! (load ! (from ! (stop !)) (look ! 27 refl)) (and-then ! (load ! (from ! (stop !)) (look ! 11 refl)) (no-more !)))))) (λ u-val.
+            use1 W (later (some (λ (u : Unit {0}). ((‵ (flft κ₁ q₁) ⊛ ‵ (flft (α₄ ∷ []) fullShare) ⊛ ‵ (flft (α₅ ∷ []) fullShare) ⊛ ‵ (flft (α₆ ∷ [])
+            fullShare) ⊛ ‵ ftrue) ⊛ ‵ (unit .own u (u-val ∷ []))) ⊛ raw (ensured 𝓤 H A store-records.ended (store-records.clauses 𝓤 H A at-mem run) (
+              κ₁,
+              (
+                α₄ ∷
+                    [],
+                (α₅ ∷ [], (α₆ ∷ [], tt)),
+              ),
+            ) (
+              x₁,
+              (
+                (record { ptr = (l₄, 0); name = γ′₄; now = lengths }),
                 (
-                  (record { ptr = (l₄, 0); name = γ′₄; now = lengths }),
-                  ((record { ptr = (l₅, 0); name = γ′₅; now = rates }), ((record { ptr = (l₆, 0); name = γ′₆; now = depths }), (count, tt))),
+                  (record { ptr = (l₅, 0); name = γ′₅; now = rates }),
+                  ((record { ptr = (l₆, 0); name = γ′₆; now = depths }), (count, tt)),
                 ),
-              ) last) ⊛
-              raw (fact 𝓤 ((last .0) ≡ filled (figures (recordsOf count lengths rates depths)) list)))) (id⊢ 𝓤 _) $
-              pick ! (λ last. split ! $ move ! (1 ∷ []) $ heard ! ((last .0) ≡ filled (figures (recordsOf count lengths rates depths)) list) (λ stored.
-              fsplit ! $ fsplit ! $ move ! (1 ∷ []) $ feqL ! (λ after-long. move ! (1 ∷ []) $ fsplit ! $ drop ! $ fsplit ! $ drop ! $ fsplit ! $ drop ! $
-              fsplit ! $ drop ! $ drop ! $ move ! (1 ∷ []) $ split ! $ move ! (1 ∷ []) $ facts ! unit (Is unit) (shows 𝓤 H A unit) u (u-val ∷ []) (λ u-is.
-              split ! $ move ! (1 ∷ []) $ split ! $ move ! (1 ∷ []) $ split ! $ move ! (1 ∷ []) $ split ! $ move ! (1 ∷ []) $ drop ! $
-              land ! (from ! (stop !)) (init ! 23 refl ((nothing-lawful 𝓤 H A W) .typed u (u-val ∷ []) u-is .0)) $ forget ! 13 refl $ forget ! 15 refl $
-              forget ! 23 refl $ forget ! 24 refl $ forget ! 25 refl $ forget ! 26 refl $ forget ! 27 refl $ forget ! 28 refl $ forget ! 29 refl $
-              forget ! 30 refl $ forget ! 31 refl $
-              ending zeros answer answer-val answer-is lengths rates depths answered planned count counted α₄ α₅ α₆ (last .0) after-long stored))))))))))))
+              ),
+            ) tt u)))) (id⊢ 𝓤 _) $ await ! tt $
+            pick ! (λ u. split ! $ move ! (1 ∷ []) $
+            use1 W (some (λ (last : Lasts store-records.ended (κ₁, (α₄ ∷ [], (α₅ ∷ [], (α₆ ∷ [], tt)))) (
+              x₁,
+              (
+                (record {
+                  ptr = (l₄, 0);
+                  name = γ′₄;
+                  now = lengths;
+                }),
+                (
+                  (record { ptr = (l₅, 0); name = γ′₅; now = rates }),
+                  (
+                    (record { ptr = (l₆, 0); name = γ′₆; now = depths }),
+                    (
+                      count,
+                      tt,
+                    ),
+                  ),
+                ),
+              ),
+            )). ‵ (lasts store-records.ended (κ₁, (α₄ ∷ [], (α₅ ∷ [], (α₆ ∷ [], tt)))) (
+              x₁,
+              (
+                (record { ptr = (l₄, 0); name = γ′₄; now = lengths }),
+                ((record { ptr = (l₅, 0); name = γ′₅; now = rates }), ((record { ptr = (l₆, 0); name = γ′₆; now = depths }), (count, tt))),
+              ),
+            ) last) ⊛
+            raw (fact 𝓤 ((last .0) ≡ filled (figures (recordsOf count lengths rates depths)) list)))) (id⊢ 𝓤 _) $
+            pick ! (λ last. split ! $ move ! (1 ∷ []) $ heard ! ((last .0) ≡ filled (figures (recordsOf count lengths rates depths)) list) (λ stored.
+            fsplit ! $ fsplit ! $ move ! (1 ∷ []) $ feqL ! (λ after-long. move ! (1 ∷ []) $ fsplit ! $ drop ! $ fsplit ! $ drop ! $ fsplit ! $ drop ! $
+            fsplit ! $ drop ! $ drop ! $ move ! (1 ∷ []) $ split ! $ move ! (1 ∷ []) $ facts ! unit (Is unit) (shows 𝓤 H A unit) u (u-val ∷ []) (λ u-is.
+            split ! $ move ! (1 ∷ []) $ split ! $ move ! (1 ∷ []) $ split ! $ move ! (1 ∷ []) $ split ! $ move ! (1 ∷ []) $ drop ! $
+            land ! (from ! (stop !)) (init ! 23 refl ((nothing-lawful 𝓤 H A W) .typed u (u-val ∷ []) u-is .0)) $ forget ! 13 refl $ forget ! 15 refl $
+            forget ! 23 refl $ forget ! 24 refl $ forget ! 25 refl $ forget ! 26 refl $ forget ! 27 refl $ forget ! 28 refl $ forget ! 29 refl $
+            forget ! 30 refl $ forget ! 31 refl $
+            ending zeros answer answer-val answer-is lengths rates depths answered planned count counted α₄ α₅ α₆ (last .0) after-long stored))))))))))))
 
       module _ (zeros : List ℕ) (α₁ α₂ α₃ : ℕ) (γ′₁ γ′₂ γ′₃ : GName) (answer : SeriesAnswer) (answer-val : Val) (answer-is : Is An.the-row answer (answer-val ∷
           [])) (lengths rates depths : List ℕ) (lengths-long : length lengths ≡ 512) (rates-long : length rates ≡ 512) (depths-long : length depths ≡ 512)
@@ -436,9 +428,9 @@ module _ {M : Type 1} (𝓤 : URA M) (H : Heap 𝓤) (A : Atoms 𝓤) (W : Given
             raw (ensured 𝓤 H A buckets-of.ended (buckets-of.clauses 𝓤 H A at-mem run) tt (answer, tt) tt count)))) (id⊢ 𝓤 _) $ await ! tt $
             pick ! (λ count. split ! $ move ! (1 ∷ []) $
             use1 W (some (λ (last : Lasts buckets-of.ended tt (answer, tt)). ‵ (lasts buckets-of.ended tt (answer, tt) last) ⊛
-            raw (fact 𝓤 (count ≡ bucketsOf (seriesSays answer))))) (id⊢ 𝓤 _) $
-            pick ! (λ last. split ! $ move ! (1 ∷ []) $ heard ! (count ≡ bucketsOf (seriesSays answer)) (λ counted. fsplit ! $ drop ! $ drop ! $ split ! $
-            move ! (1 ∷ []) $ facts ! usize (Is usize) (shows 𝓤 H A usize) count (count-val ∷ []) (λ count-is. drop ! $
+            raw (fact 𝓤 (count ≡ counted (λ x. x .buckets) (seriesSays answer))))) (id⊢ 𝓤 _) $
+            pick ! (λ last. split ! $ move ! (1 ∷ []) $ heard ! (count ≡ counted (λ x. x .buckets) (seriesSays answer)) (λ counted. fsplit ! $ drop ! $
+            drop ! $ split ! $ move ! (1 ∷ []) $ facts ! usize (Is usize) (shows 𝓤 H A usize) count (count-val ∷ []) (λ count-is. drop ! $
             land ! (from ! (stop !)) (init ! 12 refl ((uint-lawful 𝓤 H A W w64) .typed count (count-val ∷ []) count-is .0)) $
             rewrite ! 12 (λ (v : Val). ‵ (fat fullShare (tyInt w64) l₈ 0 v)) (ap only (count-is .0)) refl $
             storing zeros answer answer-val answer-is lengths rates depths lengths-long rates-long depths-long answered planned count (count-is .1) counted)))))
