@@ -18,7 +18,7 @@ use borrow.Author.Needs.{needs}
 use borrow.Rule.Slice.PartAt.{part-count}
 use lib.ListN.{length, take, drop, getD, set, length-drop, drop-of-length-le}
 use mathlib.Core.List.{List, []}
-use mathlib.Core.Path.{_≡_, refl, sym, ap, subst, _∙_}
+use mathlib.Core.Path.{_≡_, sym, ap, subst, _∙_}
 use native.Mathlib.Omega.{arith}
 use Rattle.series.proofs.records.record_runs.Statement.{statement}
 use Rattle.series.proofs.records.record_runs.Tie as tie

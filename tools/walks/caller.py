@@ -1,0 +1,318 @@
+# The proof of a straight-line caller: local arrays, arrays by value, calls of functions that have contracts, slices
+# passed on. The statements are read from the MIR and walked, one lemma to each call. README.md says how to describe a
+# function.
+import mir
+from arrays import Arrays
+from frame import Cited, Frame, Param, ROOM_FITS, says
+from imports import KIT, KIT_NAMES, LENT, pruned
+from lending import Lending
+from meaning import Part, Slice, To, Val
+from rows import Types, uint
+from text import bare, binders, cons, nest, par, sub, words, wrapped
+from walk import Walk
+
+
+class Call:
+    """One call of a description: see README.md."""
+
+    def __init__(self, verb, callee, needs=None, out='u', new=(), ens=(), exported=None):
+        self.verb, self.callee, self.needs, self.out, self.new = verb, callee, needs, out, list(new)
+        self.ens, self.exported = list(ens), exported
+
+
+class Lemma:
+    """A stretch of the walk: from statement `pos` at context `ctx`, under the variables, to the next lemma."""
+
+    def __init__(self, name, pos, ctx, variables=()):
+        self.name, self.pos, self.ctx, self.vars = name, pos, ctx, list(variables)
+        self.before, self.walk, self.last, self.args = [], None, None, []
+
+
+class Caller:
+    def __init__(self, crate, name, comment, params, types, calls, ensures=None, requires=None, uses=(),
+                 inner='', inits='zeros', start=(), fronts=None):
+        self.crate, self.mods, self.name, self.comment = crate, name.split('.'), name.split('.')[-1], comment
+        self.types, self.rows, self.calls, self.ensures = Types(types), types, calls, ensures
+        self.own_uses, self.inner, self.param_names, self.requires = list(uses), inner, params, requires
+        self.inits, self.start, self.fronts = inits, list(start), fronts or {}
+
+    def read(self):
+        """The function as the MIR has it, and its frame."""
+        f = mir.function(self.crate, '::'.join([self.crate] + self.mods))
+        self.body, self.locals, self.n = mir.statements(f), f.locals, len(f.locals)
+        assert len(self.param_names) == f.params, 'a name for each parameter'
+        self.params = [Param(self.types, k + 1, x, f.locals[k + 1]) for k, x in enumerate(self.param_names)]
+        self.local_types = [self.types.text(t) for t in f.locals]
+        names = [x for c in self.calls for x in c.new + [c.out] + [e[0] for e in c.ens]]
+        assert not KIT_NAMES & set(names), 'names of the proof kit: %s' % (KIT_NAMES & set(names))
+        taken, cited = KIT_NAMES | {r.den for r in self.rows}, {}
+        for c in self.calls:
+            cited.setdefault(c.callee, Cited(c.callee, self.crate, c.exported, taken))
+        self.cited = cited
+        self.frame = Frame(self.crate, self.mods, f.lifetimes, self.params, self.requires, list(cited.values()))
+        self.arrays = Arrays(self)
+
+    # ---- the context
+    def at(self, k):
+        return 'l' + sub(k)
+
+    def item(self, name):
+        """What an entry of the context says."""
+        if name in self.entries:
+            return self.entries[name]
+        k = int(name[1:])
+        ty = par(self.local_types[k])
+        if name[0] == 'd':
+            return 'fdies %s %s' % (ty, self.at(k))
+        if k in self.val:
+            return 'fat fullShare %s %s 0 %s' % (ty, self.at(k), self.val[k])
+        return 'froom %s %s 0' % (ty, self.at(k))
+
+    def items(self, ctx):
+        return cons('‵ (%s)' % self.item(n) for n in ctx)
+
+    # ---- the walk
+    def build(self):
+        self.read()
+        self.cur, self.entries, self.val, self.mean = {}, {}, {}, {}
+        self.fresh, self.dead, self.lemmas, self.exit_vars, self.lifetimes = [], set(), [], [], 0
+        for p in self.params:
+            self.val[p.local] = p.value
+            self.mean[p.local] = Slice(p) if p.is_ref else Val(p.row, p.name, p.value, p.known)
+            if p.is_ref:
+                self.entries['P%d' % p.local] = '%s .own x%s (s%s ∷ [])' % (p.own, p.i, p.i)
+                self.entries['t%d' % p.local] = 'flft κ%s q%s' % (p.i, p.i)
+        refs = [p.local for p in self.frame.refs]
+        begin = [a + str(k) for a in 'Pt' for k in refs] + [a + str(k) for a in 'rd' for k in range(self.n)]
+        self.entry = self.entering(begin)
+        self.w = Walk(begin, self.n)
+        self.w.live = {p.local for p in self.params}
+        self.todo = list(self.calls)
+        self.lemma = Lemma('starting' if self.arrays.of else self.next_name(), 1, self.items(begin))
+        self.lemmas.append(self.lemma)
+        self.statements()
+
+    def next_name(self):
+        return self.todo[0].verb if self.todo else 'ending'
+
+    def entering(self, begin):
+        w = Walk(['toks', 'owns'], self.n)
+        for p in self.frame.refs:
+            w.split('toks', 't%d' % p.local, 'toks')
+        w.drop('toks')
+        for p in self.params:
+            w.split('owns', 'P%d' % p.local, 'owns', rule='fsplit')
+            if not p.is_ref:
+                w.drop('P%d' % p.local)
+        w.drop('owns')
+        w.enter('C Λ', self.frame.values, [self.at(k) for k in range(self.n)])
+        for p in self.params:
+            typed = ROOM_FITS % ('room%s .0' % p.i) if p.is_ref else self.mean[p.local].typed()
+            w.emit('pass1 ! (init ! %d refl %s) $' % (w.i('r%d' % p.local), typed))
+        w.emit('pass0 ! $')
+        w.keep(*begin)
+        return w
+
+    def statements(self):
+        started = not self.arrays.of
+        for i, s in enumerate(self.body):
+            if self.arrays.begins(s):
+                self.arrays.begin(s)
+                continue
+            if not started and not any(self.arrays.begins(x) for x in self.body[i:]):
+                started = True
+                self.arrays.name_lists()
+                self.forget_old(i)
+                self.cut(self.next_name(), i + 1)
+            if s == mir.RETURN:
+                self.end()
+            elif isinstance(s, mir.Called):
+                Lending(self, self.todo.pop(0), s).walk(i)
+            else:
+                self.assign(s.to, s.value)
+
+    def forget_old(self, i):
+        """The locals that no statement from i on reads."""
+        read = set().union(*[mir.reads(s) for s in self.body[i:]])
+        for k in sorted(self.w.live):
+            if k and k not in read:
+                self.w.forget(k)
+                self.val.pop(k, None)
+
+    def close(self, last, args=()):
+        self.lemma.walk, self.lemma.last, self.lemma.args = self.w, last, list(args)
+
+    def cut(self, name, pos):
+        """This lemma ends with the next one, which is stated at the context as it is here."""
+        kept = [(n, t) for n, t in self.lemma.vars if n not in self.dead]
+        self.close(name, [(n, n) for n, _ in kept] + [(n, par(a)) for n, _, a in self.fresh])
+        kept += [(n, t) for n, t, _ in self.fresh]
+        self.fresh, self.cur, self.dead = [], {}, set()
+        self.entries = {n: f.replace('@', '') for n, f in self.entries.items()}
+        w = Walk(self.w.ctx, self.n)
+        w.live = set(self.w.live)
+        self.w, self.lemma = w, Lemma(name, pos, self.items(w.ctx), kept)
+        self.lemmas.append(self.lemma)
+
+    # ---- statements
+    def operand(self, x):
+        if isinstance(x, mir.Lit):
+            return '(lit ! tt)'
+        return self.w.fld(x.local, *x.fields) if x.fields else self.w.loc(x.local)
+
+    def meaning(self, x):
+        if isinstance(x, mir.Lit):
+            r = uint(x.width)
+            return Val(r, x.value, r.val(x.value), '(refl, lit< tt)')
+        return self.mean[x.local]
+
+    def assign(self, k, value):
+        w = self.w
+        if isinstance(value, mir.Addr):
+            self.address(k, value)
+        elif isinstance(value, mir.Built):
+            self.built(k, value.parts)
+        elif isinstance(value, mir.Copy) and value.fields:
+            p = self.mean[value.local].param
+            assert value.fields == [1], 'of a slice only the length is read'
+            length, fits = '(length %s)' % p.name, 'room%s .0' % p.i
+            w.copy(k, self.operand(value), '(tt, record { fits = %s })' % fits)
+            self.val[k] = uint(64).val(length)
+            self.mean[k] = Val(uint(64), length, self.val[k], '(refl, %s)' % fits)
+        else:
+            if isinstance(value, mir.Copy) and value.local in self.arrays.of and value.local not in w.live:
+                self.arrays.whole(value.local)
+            m = self.meaning(value)
+            w.copy(k, self.operand(value), m.typed())
+            self.mean[k], self.val[k] = m, m.v
+
+    def address(self, k, value):
+        if not value.steps:
+            self.w.put(k, '(addr ! (from ! (stop !)))', '(tt, tt)')
+            self.val[k], self.mean[k] = '(vptr %s 0)' % self.at(value.local), To(value.local)
+            return
+        way = '(fld ! refl (hop ! (look-in ! %d (sub ! 0 refl (whole !))) (stop !)))' % self.w.i('r%d' % value.local)
+        self.w.put(k, '(addr ! (from ! %s))' % way, '(tt, tt)')
+        self.mean[k] = self.mean[value.local]
+        self.val[k] = '(vptr b{0} o{0})'.format(self.mean[k].param.i)
+
+    def built(self, k, parts):
+        m, operands = self.meaning(parts[0]), [self.operand(x) for x in parts]
+        if isinstance(m, Slice):
+            self.w.agg(k, operands, ROOM_FITS % ('room%s .0' % m.param.i))
+            self.val[k], self.mean[k] = 's' + m.param.i, m
+        elif isinstance(m, To):
+            c, size = self.meaning(parts[1]), self.arrays.of[m.array][1]
+            fits = c.known[7:-1] if c.known.startswith('(refl, ') else '%s .1' % par(c.known)
+            self.w.agg(k, operands, ROOM_FITS % fits)
+            self.val[k] = '(sliceVal (%s, 0) %s)' % (self.at(m.array), par(c.x))
+            mut = self.types.slice(self.locals[k])[0] == 'mut'
+            self.mean[k] = Part(m.array, mut, None if c.x == str(size) else c.x)
+        else:
+            self.mean[k] = self.struct(self.types.row(self.locals[k]), [self.meaning(x) for x in parts])
+            self.val[k] = self.mean[k].v
+            self.w.agg(k, operands, self.mean[k].typed())
+
+    def struct(self, row, parts):
+        assert len(row.fields) == len(parts), 'name the fields of ' + row.den
+        named = ['«%s»' % f if '_' in f else f for f in row.fields]
+        fields = '; '.join('%s = %s' % (f, m.x) for f, m in zip(named, parts))
+        known = nest([self.arrays.as_field(m) if m.row.of else m.known for m in parts])
+        return Val(row, 'record { %s }' % fields, '(vstruct (ofList (%s)))' % cons(bare(m.v) for m in parts),
+                   '(%s, (refl, %s))' % (nest(['%s ∷ []' % bare(m.v) for m in parts]), known))
+
+    # ---- the end
+    def end(self):
+        self.arrays.freed()
+        self.w.ret()
+        left = ['t%d' % p.local for p in self.frame.refs]
+        left += [self.held(p) for p in self.frame.refs]
+        self.w.keep(*left)
+        m, ctx, ind = self.mean[0], self.items(left), '  ' if self.exit_vars else ''
+        lines = ['exits : ent 𝓤 (⋆ 𝓤 H A (%s)) (Post %s)' % (ctx, m.v), 'exits =', '    qed W (%s) ∵' % ctx]
+        lines += ['    ' + line.strip() for line in self.exits(left, m).text('done !').split('\n')]
+        opened = ['module _ %s where' % binders(self.exit_vars)] if self.exit_vars else []
+        self.lemma.before = opened + [ind + line for line in lines] + ['']
+        self.close('by ! ' + par(' '.join(['exits'] + [n for n, _ in self.exit_vars])))
+
+    def held(self, p):
+        return ('F%d' if p.kind == 'mut' else 'P%d') % p.local
+
+    def exits(self, left, result):
+        """What is left at the end is what the contract asks there."""
+        w, changed = Walk(left, self.n), [p for p in self.params if p.kind == 'mut']
+        lists = {p: self.entries[self.held(p)].split(' ')[-1] for p in changed}
+        last = nest([lists.get(p, 'tt') for p in self.params])
+        long = nest([lists[p] + '-long' if p in lists else 'tt' for p in self.params])
+        w.emit('suffices ! _ (ends-at 𝓤 H A self.ended stayed (self.clauses 𝓤 H A at-mem run) W %s %s %s %s %s) $'
+               % (self.frame.bound, result.v, par(result.x), last, long))
+        if self.ensures:
+            w.emit(says(self.ensures))
+        w.nil()
+        w.joins(['t%d' % p.local for p in self.frame.refs] + ['nil'], 'join', 'toks')
+        self.framed(w, 'toks')
+        w.nil()
+        for p in self.params:
+            if not p.is_ref:
+                w.emit('nothing ! $' if p.row.of else Val(p.row, p.name, p.value, p.known).owned())
+                w.head(0, self.held(p))
+        w.joins([self.held(p) for p in self.params] + ['nil'], 'fjoin', 'had')
+        self.framed(w, 'had')
+        w.emit(result.owned())
+        if not self.ensures:
+            w.head(0, 'own')
+            w.joins(['toks', 'had', 'own'], 'join', 'all')
+            w.emit('frame ! $')
+        return w
+
+    def framed(self, w, name):
+        if self.ensures:
+            w.move(name)
+            w.emit('frame ! $')
+            w.head(1)
+
+    # ---- the file
+    def needed(self):
+        """Of each lemma only the variables that it or the next one names, and what their types name."""
+        later = set()
+        for lemma in reversed(self.lemmas):
+            args = [a for n, a in lemma.args if n in later] if lemma.args else [lemma.last]
+            used = set().union(*[words(x) for x in [lemma.ctx] + lemma.before + lemma.walk.lines + args])
+            for n, t in reversed(lemma.vars):
+                used |= words(t) if n in used else set()
+            lemma.args = [(n, a) for n, a in lemma.args if n in later]
+            lemma.vars = [(n, t) for n, t in lemma.vars if n in used]
+            later = {n for n, _ in lemma.vars}
+
+    def lemma_text(self, lemma):
+        ind, out = '      ', []
+        if lemma.vars:
+            out.append(ind + 'module _ %s where' % binders(lemma.vars))
+            ind += '  '
+        out += [ind + line if line else '' for line in lemma.before]
+        out += [ind + '%s : Sq W (%s) (runs C Λ E mir.t-%d (atRet E Post))' % (lemma.name, lemma.ctx, lemma.pos),
+                ind + lemma.name + ' =']
+        text = lemma.walk.text(' '.join([lemma.last] + [a for _, a in lemma.args]))
+        return out + [ind + '    ' + line.strip() for line in text.split('\n')] + ['']
+
+    def text(self):
+        self.build()
+        self.needed()
+        f, ls = self.frame, ' '.join(self.at(k) for k in range(self.n))
+        known = ' '.join('(known-%s : %s)' % (g.alias, g.triple('C')) for g in f.cited)
+        out = f.stayed() + self.arrays.lemmas() + f.contracts() + f.opened() + self.arrays.typed() + f.names()
+        if self.inner:
+            out += ['  ' + line if line else '' for line in self.inner.strip('\n').split('\n')] + ['']
+        out += ['  module _ (C : Calls 𝓤 H) (Λ : Loops 𝓤 H) (fm : FmC 𝓤 H (W .laws) C) %s where' % known,
+                '    module _ (%s : ℕ) where' % ls, '      abbrev E : Env 𝓤 H',
+                '      E = ' + cons('(%s, %s)' % (t, self.at(k)) for k, t in enumerate(self.local_types)), '']
+        for lemma in reversed(self.lemmas):
+            out += self.lemma_text(lemma)
+        out += f.walk(self.entry.text('%s %s' % (self.lemmas[0].name, ls))) + f.walks() + f.meets() + f.spec()
+        body = wrapped(out)
+        return self.comment.strip('\n') + '\n' + '\n'.join(pruned(self.uses(), body)) + '\n\n' + body
+
+    def uses(self):
+        project = [u for u in self.own_uses if 'Rattle·' in u]
+        return KIT + [u for u in self.own_uses if u not in project] + LENT + project + [
+            u for r in self.rows for u in r.uses(self.crate)] + self.frame.uses()

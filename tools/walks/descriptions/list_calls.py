@@ -1,0 +1,66 @@
+# The walks of crate list_calls: `list_calls::arrays::{series_in, read_in, write_in, book_in}`. Each takes arrays by
+# value and lends the first records of each to one call.
+from caller import Call, Caller
+from rows import declared
+
+RECORD = declared('struct', 'T', 'terms::BucketRecord')
+
+
+def walk(name, comment, params, types, call, fits, fronts):
+    return Caller('list_calls', 'arrays.' + name, comment, params=params, types=[RECORD] + types, calls=[call],
+                  requires=('fits', fits), fronts=fronts)
+
+
+PROOFS = [
+    walk('series_in', '''
+-- `list_calls::arrays::series_in` meets its contract: a walk of its MIR. The array is copied into a local, and its
+-- first elements are lent to `series` for a lifetime of their own. They come back at the last list that it leaves
+-- there, beside the elements that were not lent. The local is then loaded whole into the result. All that the proof
+-- knows of `series` is that it meets its contract.
+-- Assumes nothing.
+''',
+         params=['trace', 'tariff', 'list', 'entries'],
+         types=[declared('struct', 'P', 'terms::Tariff'), declared('enum', 'F', 'series::plans::SeriesAnswer'),
+                declared('struct', 'S', 'list_calls::arrays::SeriesLent', ['answer', 'list'])],
+         call=Call('planning', 'series::plans::series', out='answer', new=['after'], exported='series::series'),
+         fits='entries ≤ 516', fronts={'list': 'fits'}),
+    walk('read_in', '''
+-- `list_calls::arrays::read_in` meets its contract: a walk of its MIR. The array is copied into a local, and its
+-- first elements are lent to `read_plan` for a lifetime of their own. They come back at the last list that it leaves
+-- there, beside the elements that were not lent. The local is then loaded whole into the result. All that the proof
+-- knows of `read_plan` is that it meets its contract.
+-- Assumes nothing.
+''',
+         params=['bytes', 'list', 'entries'],
+         types=[declared('enum', 'F', 'plan_file::plans::PlanAnswer'),
+                declared('struct', 'S', 'list_calls::arrays::ReadLent', ['answer', 'list'])],
+         call=Call('reading', 'plan_file::plans::read_plan', out='answer', new=['after'],
+                   exported='plan_file::read_plan'),
+         fits='entries ≤ 516', fronts={'list': 'fits'}),
+    walk('write_in', '''
+-- `list_calls::arrays::write_in` meets its contract: a walk of its MIR. The array is copied into a local, and its
+-- first elements are lent to `write_plan` for a lifetime of their own. They come back as they were, beside the
+-- elements that were not lent. What it answers is the result. All that the proof knows of `write_plan` is that it
+-- meets its contract.
+-- Assumes nothing.
+''',
+         params=['figs', 'list', 'entries', 'bytes'],
+         types=[declared('struct', 'P', 'plan_file::plans::PlanFigures'),
+                declared('enum', 'F', 'encoding::fills::FillAnswer')],
+         call=Call('writing', 'plan_file::plans::write_plan', out='answer', new=['file'],
+                   exported='plan_file::write_plan'),
+         fits='entries ≤ 516', fronts={'list': 'fits'}),
+    walk('book_in', '''
+-- `list_calls::arrays::book_in` meets its contract: a walk of its MIR. Each array is copied into a local, and its
+-- first elements are lent to `book` for a lifetime of their own. They come back at the last list that it leaves
+-- there, beside the elements that were not lent. The locals are then loaded whole into the result. All that the
+-- proof knows of `book` is that it meets its contract.
+-- Assumes nothing.
+''',
+         params=['order', 'demands', 'plan', 'planned', 'bytes', 'back', 'read'],
+         types=[declared('enum', 'F', 'recording::plans::BookingAnswer'),
+                declared('struct', 'S', 'list_calls::arrays::BookLent', ['answer', 'plan', 'back'])],
+         call=Call('booking', 'booking::bookings::book', out='answer', exported='booking::book',
+                   new=['spread', 'plan-after', 'file', 'back-after']),
+         fits='(planned ≤ 516) × (read ≤ 516)', fronts={'plan': 'fits .0', 'back': 'fits .1'}),
+]
