@@ -1,5 +1,5 @@
 // A list of bucket records that a call is lent, filled beforehand with records that all differ, and
-// compared afterwards.
+// compared afterwards. Public only for the test programs, which show what is required.
 use terms::Bucket;
 use terms::BucketRecord;
 use terms::Depth;
