@@ -20,7 +20,8 @@ def fits(proof):
 
 class Loop:
     """A description gives `lists`: what the context holds of each list on entry, a pair where its borrow is to be
-    opened."""
+    opened; `TEST`, the local of the loop's condition; `LEFT`, what the context holds after the loop; `walks`, which sets
+    `invariant` and gives the `parts`; and the walks `turn`, `leaves`, `exits` and `opened`."""
 
     lists = ()
 
@@ -55,6 +56,18 @@ class Loop:
         return w
 
     # ---- the parts of a walk
+    def parts(self, before, begin, inv, end, opened):
+        """Each walk of the file by its mark. What the context holds: `begin` before the loop, `inv` at turn i, `end` after
+        the loop; `opened` is the lemma by which the loop is entered."""
+        w = self.walk(self.invariant, range(1, INDEX + 1))
+        w.bin(self.TEST, w.loc(INDEX), w.loc(COUNT), 'tt', TRIVIAL)
+        return {'AT': self.context(self.invariant, inv), 'TEST': str(w.i('r%d' % self.TEST)),
+                'PRE': w.text('').rstrip(), 'MORE': self.turn(self.walk(w.ctx, w.live)),
+                'ENDS': self.leaves(self.walk(w.ctx, w.live)),
+                'EXL': self.context(self.LEFT, end), 'EXITS': self.exits(), 'OPENED': self.opened(before),
+                'BEFORE': self.context(before, {**begin, **self.at(self.values('0'))}),
+                'WALK': self.entry(before).text('%s %s' % (opened, self.ls))}
+
     def entry(self, before):
         """From the function's beginning to the loop, where the context is `before`."""
         w = self.walk(['toks', 'owns'])

@@ -20,7 +20,7 @@ use Rattle.order_file.specs.OrderRules.{read-rules, spread-rules}
 use Rattle.order_file.specs.Ordered.{ordered, spreadFrom}
 use Rattle.order_file.specs.OrderedLaws.{is-ordered, found-spread}
 use Rattle.record_list.specs.ListLaws.{stored-answer, stored-none}
-use Rattle.record_list.specs.Lists.{Filled, counted, recordsOf}
+use Rattle.record_list.specs.Lists.{RecordLists, Filled, counted, recordsOf}
 use Rattle.plan_file.specs.Plan.{bucketsOf, readPlan}
 use Rattle.planning.specs.Planning.{Planned, cuttingOf}
 use Rattle.planning.specs.PlannedLaws.{is-planned}
@@ -151,24 +151,22 @@ module _ (bs : List ℕ) (z : Sizes) (old new : ListsLent) (answer : Answer Book
           (omega (arith, l, m .0), (omega (arith, l, found-back bs z s k), omega (arith, l, m .1)))
       go (refused m) f = let k = count-none m f in (omega (arith, k), (omega (arith, k), omega (arith, k)))
 
-  pub stored-plan : (plan : Cutting) → filled (figures (recordsOf n (new .plan .runs) (new .plan .rates) (new .plan .depths))) plan ≡ planAfter (bookedIn z bs) plan
-  stored-plan plan = go (bookedIn z bs) refl
+  -- They fill a lent list as the steps say whose records the lists of figures hold.
+  stored : (part : Steps → Cutting) (before after : RecordLists)
+      → ((s : Steps) → bookedIn z bs ≡ figures s → Filled (figures (part s)) before after × (n ≡ length (part s)))
+      → (list : Cutting) → filled (figures (recordsOf n (after .runs) (after .rates) (after .depths))) list ≡ filled (onFigures part (bookedIn z bs)) list
+  stored part before after h list = go (bookedIn z bs) refl
     where
-      go : (a : Answer Steps) → bookedIn z bs ≡ a → filled (figures (recordsOf n (new .plan .runs) (new .plan .rates) (new .plan .depths))) plan ≡ planAfter a plan
-      go (figures s) f =
-          stored-answer (figures (s .planning .cutting)) (old .plan) (new .plan) (b .plans s f) plan n (count-found s f ∙ ap length (found-same bs z s (steps-found bs z s f)))
-      go (refused m) f = stored-none (new .plan) plan n (count-none m f)
-
-  pub stored-back : (back : Cutting) → filled (figures (recordsOf n (new .back .runs) (new .back .rates) (new .back .depths))) back ≡ backAfter (bookedIn z bs) back
-  stored-back back = go (bookedIn z bs) refl
-    where
-      go : (a : Answer Steps) → bookedIn z bs ≡ a → filled (figures (recordsOf n (new .back .runs) (new .back .rates) (new .back .depths))) back ≡ backAfter a back
-      go (figures s) f = stored-answer (figures (s .recording .plan .buckets)) (old .back) (new .back) (b .reads s f) back n (count-found s f)
-      go (refused m) f = stored-none (new .back) back n (count-none m f)
+      go : (a : Answer Steps) → bookedIn z bs ≡ a → filled (figures (recordsOf n (after .runs) (after .rates) (after .depths))) list ≡ filled (onFigures part a) list
+      go (figures s) f = let k = h s f in stored-answer (figures (part s)) before after (k .0) list n (k .1)
+      go (refused m) f = stored-none after list n (count-none m f)
 
   -- So booking keeps the claim on the lent records.
   pub lists-claim : (plan back plan′ back′ : Cutting) → length plan ≡ z .plan → length back ≡ z .back
       → plan′ ≡ filled (figures (recordsOf n (new .plan .runs) (new .plan .rates) (new .plan .depths))) plan
       → back′ ≡ filled (figures (recordsOf n (new .back .runs) (new .back .rates) (new .back .depths))) back
       → Claim bs (lent (old .demands) plan (old .bytes) back) (lent (new .demands) plan′ (new .bytes) back′) answer
-  lists-claim plan back plan′ back′ f g p q = b .claims plan back plan′ back′ f g (p ∙ stored-plan plan) (q ∙ stored-back back)
+  lists-claim plan back plan′ back′ f g p q =
+      b .claims plan back plan′ back′ f g
+      (p ∙ stored (λ s. s .planning .cutting) (old .plan) (new .plan) (λ s k. (b .plans s k, count-found s k ∙ ap length (found-same bs z s (steps-found bs z s k)))) plan)
+      (q ∙ stored (λ s. s .recording .plan .buckets) (old .back) (new .back) (λ s k. (b .reads s k, count-found s k)) back)

@@ -5,11 +5,12 @@ use native.Mathlib.Omega.{arith}
 use native.Mathlib.Nat.{le-trans, min-le-left, min-le-right}
 use mathlib.Core.Path.{_≡_, refl, sym, ap, _∙_}
 use mathlib.Core.List.{List, map}
-use lib.ListN.{length, getD, replicate, length-map, length-replicate, length-drop, length-append, List·getD-append, List·getD-map}
+use lib.ListN.{length, getD, replicate, length-map, length-replicate, List·getD-append, List·getD-map}
 use lib.Seq.{ext-getD}
 use Rattle.terms.specs.declared.BucketRecord.{BucketRecord}
 use Rattle.terms.specs.Answer.{Answer, figures, refused, onFigures}
 use Rattle.terms.specs.Lent.{filled}
+use Rattle.terms.specs.LentLaws.{filled-length}
 use Rattle.terms.specs.Records.{Cutting, recordOf, runLength, runRate, runDepth}
 use Rattle.encoding.specs.Number.{itemsAt}
 use Rattle.encoding.specs.NumberLaws.{length-items, item-at}
@@ -86,7 +87,7 @@ module _ (xs : Cutting) (old new : RecordLists) (f : Filled (figures xs) old new
   lists-hold = rw (f .0, f .1 .0, f .1 .1) (held-records xs (old .runs) (old .rates) (old .depths))
 
   kept : (figure : BucketRecord → ℕ) (ys : List ℕ) → length xs ≤ length ys → length (recorded figure (figures xs) ys) ≡ length ys
-  kept figure ys m = length-append (map figure xs) _ ∙ omega (arith, length-map xs figure, length-drop (length (map figure xs)) ys)
+  kept figure ys m = filled-length (map figure xs) ys (omega (arith, m, length-map xs figure))
 
   pub room-kept : length xs ≤ roomOf (old .runs) (old .rates) (old .depths)
       → roomOf (new .runs) (new .rates) (new .depths) ≡ roomOf (old .runs) (old .rates) (old .depths)

@@ -5,6 +5,14 @@ from rows import declared
 
 RECORD = declared('struct', 'T', 'terms::BucketRecord')
 
+FILLED = '''
+-- `list_calls::arrays::{0}` meets its contract: a walk of its MIR. The array is copied into a local, and its
+-- first elements are lent to `{1}` for a lifetime of their own. They come back at the last list that it leaves
+-- there, beside the elements that were not lent. The local is then loaded whole into the result. All that the proof
+-- knows of `{1}` is that it meets its contract.
+-- Assumes nothing.
+'''
+
 
 def walk(name, comment, params, types, call, fits, fronts):
     return Caller('list_calls', 'arrays.' + name, comment, params=params, types=[RECORD] + types, calls=[call],
@@ -12,25 +20,13 @@ def walk(name, comment, params, types, call, fits, fronts):
 
 
 PROOFS = [
-    walk('series_in', '''
--- `list_calls::arrays::series_in` meets its contract: a walk of its MIR. The array is copied into a local, and its
--- first elements are lent to `series` for a lifetime of their own. They come back at the last list that it leaves
--- there, beside the elements that were not lent. The local is then loaded whole into the result. All that the proof
--- knows of `series` is that it meets its contract.
--- Assumes nothing.
-''',
+    walk('series_in', FILLED.format('series_in', 'series'),
          params=['trace', 'tariff', 'list', 'entries'],
          types=[declared('struct', 'P', 'terms::Tariff'), declared('enum', 'F', 'series::plans::SeriesAnswer'),
                 declared('struct', 'S', 'list_calls::arrays::SeriesLent', ['answer', 'list'])],
          call=Call('planning', 'series::plans::series', out='answer', new=['after'], exported='series::series'),
          fits='entries ≤ 516', fronts={'list': 'fits'}),
-    walk('read_in', '''
--- `list_calls::arrays::read_in` meets its contract: a walk of its MIR. The array is copied into a local, and its
--- first elements are lent to `read_plan` for a lifetime of their own. They come back at the last list that it leaves
--- there, beside the elements that were not lent. The local is then loaded whole into the result. All that the proof
--- knows of `read_plan` is that it meets its contract.
--- Assumes nothing.
-''',
+    walk('read_in', FILLED.format('read_in', 'read_plan'),
          params=['bytes', 'list', 'entries'],
          types=[declared('enum', 'F', 'plan_file::plans::PlanAnswer'),
                 declared('struct', 'S', 'list_calls::arrays::ReadLent', ['answer', 'list'])],

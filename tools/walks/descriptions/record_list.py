@@ -1,6 +1,6 @@
 # The walks of crate record_list: `record_list::copies::store_records` and `load_records`. A figure more in a record is
 # a line more in FIGURES, a list more in loops.py, and its names in the two templates.
-from loops import COUNT, INDEX, LISTS, TRIVIAL, Loop, fits
+from loops import INDEX, LISTS, Loop, fits
 from rows import declared
 from text import sub
 
@@ -44,14 +44,7 @@ class StoreRecords(Loop):
         inv = {**entries, **self.at(self.values('(i .0)')),
                'row0': 'row T.the-row fullShare (front (i .0) zs ys) b₀ o₀'}
         end = {**entries, **borrow(0, 'T.the-row', '(front k zs ys)')}
-        w = self.walk(self.invariant, range(1, INDEX + 1))
-        w.bin(self.TEST, w.loc(INDEX), w.loc(COUNT), 'tt', TRIVIAL)
-        return {'AT': self.context(self.invariant, inv), 'TEST': str(w.i('r%d' % self.TEST)),
-                'PRE': w.text('').rstrip(), 'MORE': self.turn(self.walk(w.ctx, w.live)),
-                'ENDS': self.leaves(self.walk(w.ctx, w.live)),
-                'EXL': self.context(self.LEFT, end), 'EXITS': self.exits(), 'OPENED': self.opened(before),
-                'BEFORE': self.context(before, {**entries, **self.at(self.values('0'))}),
-                'WALK': self.entry(before).text('opened 𝓣 known ' + self.ls)}
+        return self.parts(before, entries, inv, end, 'opened 𝓣 known')
 
     def turn(self, w):
         self.calls(w)
@@ -168,14 +161,7 @@ class LoadRecords(Loop):
             end.update(borrow(j, 'u32', '(%s)' % self.now(j, 'k')))
         inv = {**begin, **self.at(self.values('(i .0)')), **{'row%d' % j: self.row(j, '(i .0)') for j in NUMBERS},
                'row0': 'row T.the-row p₀ ys b₀ o₀', 'obor0': 'fobor κ₀ q₀ (%s)' % (share % 'p₀')}
-        w = self.walk(self.invariant, range(1, INDEX + 1))
-        w.bin(self.TEST, w.loc(INDEX), w.loc(COUNT), 'tt', TRIVIAL)
-        return {'AT': self.context(self.invariant, inv), 'TEST': str(w.i('r%d' % self.TEST)),
-                'PRE': w.text('').rstrip(), 'MORE': self.turn(self.walk(w.ctx, w.live)),
-                'ENDS': self.leaves(self.walk(w.ctx, w.live)),
-                'EXL': self.context(self.LEFT, end), 'EXITS': self.exits(), 'OPENED': self.opened(before),
-                'BEFORE': self.context(before, {**begin, **self.at(self.values('0'))}),
-                'WALK': self.entry(before).text('opened 𝓣 ' + self.ls)}
+        return self.parts(before, begin, inv, end, 'opened 𝓣')
 
     def turn(self, w):
         self.pointer(w, self.PLACE, self.OFFSET, 0, RECORD_BYTES, 'small12 less')
