@@ -1,5 +1,5 @@
-// The plan file read into three number lists and written from them. Public only for the crates above
-// and this crate's calls, which show what is required.
+// The plan file read into three number lists and written from them. Public only for the crates above,
+// which show what is required.
 use crate::plans::PlanAnswer;
 use crate::plans::PlanFigures;
 use crate::records::load_figures;

@@ -1,4 +1,4 @@
-// The cheapest cutting of a trace into runs with a bucket each.
+// The cheapest cutting of a trace into runs with a bucket each, for the crates above.
 pub mod lists;
 mod outlines;
 mod plans;
@@ -8,4 +8,3 @@ mod suffixes;
 
 pub use plans::Plan;
 pub use plans::SeriesAnswer;
-pub use plans::series;

@@ -1,5 +1,5 @@
 // The series planned into three number lists, whose front holds a figure of each record. Public only
-// for the crates above and this crate's call, which show what is required.
+// for the crates above, which show what is required.
 use crate::outlines::UNPRICED;
 use crate::plans::Plan;
 use crate::plans::SeriesAnswer;

@@ -24,14 +24,13 @@ PROOFS = [
          params=['trace', 'tariff', 'list', 'entries'],
          types=[declared('struct', 'P', 'terms::Tariff'), declared('enum', 'F', 'series::plans::SeriesAnswer'),
                 declared('struct', 'S', 'list_calls::arrays::SeriesLent', ['answer', 'list'])],
-         call=Call('planning', 'series::plans::series', out='answer', new=['after'], exported='series::series'),
+         call=Call('planning', 'plans::cuttings::series', out='answer', new=['after'], exported='plans::series'),
          fits='entries ≤ 516', fronts={'list': 'fits'}),
     walk('read_in', FILLED.format('read_in', 'read_plan'),
          params=['bytes', 'list', 'entries'],
          types=[declared('enum', 'F', 'plan_file::plans::PlanAnswer'),
                 declared('struct', 'S', 'list_calls::arrays::ReadLent', ['answer', 'list'])],
-         call=Call('reading', 'plan_file::plans::read_plan', out='answer', new=['after'],
-                   exported='plan_file::read_plan'),
+         call=Call('reading', 'plans::files::read_plan', out='answer', new=['after'], exported='plans::read_plan'),
          fits='entries ≤ 516', fronts={'list': 'fits'}),
     walk('write_in', '''
 -- `list_calls::arrays::write_in` meets its contract: a walk of its MIR. The array is copied into a local, and its
@@ -43,8 +42,7 @@ PROOFS = [
          params=['figs', 'list', 'entries', 'bytes'],
          types=[declared('struct', 'P', 'plan_file::plans::PlanFigures'),
                 declared('enum', 'F', 'encoding::fills::FillAnswer')],
-         call=Call('writing', 'plan_file::plans::write_plan', out='answer', new=['file'],
-                   exported='plan_file::write_plan'),
+         call=Call('writing', 'plans::files::write_plan', out='answer', new=['file'], exported='plans::write_plan'),
          fits='entries ≤ 516', fronts={'list': 'fits'}),
     walk('book_in', '''
 -- `list_calls::arrays::book_in` meets its contract: a walk of its MIR. Each array is copied into a local, and its

@@ -56,10 +56,10 @@ use Rattle.plan_file.proofs.plans.PlanAnswer as F
 use Rattle.plan_file.proofs.plans.PlanAnswer.Laws as F′
 use Rattle.list_calls.proofs.arrays.ReadLent as S
 use Rattle.list_calls.proofs.arrays.ReadLent.Laws as S′
-use Rattle.plan_file.proofs.read_plan as read-plan
-use Rattle.plan_file.proofs.read_plan.Symbol as read-plan-def
-use Rattle.plan_file.proofs.read_plan.Symbol.{name as #read-plan}
-use Rattle.plan_file.proofs.read_plan.Met as read-plan-thm
+use Rattle.plans.proofs.read_plan as read-plan
+use Rattle.plans.proofs.read_plan.Symbol as read-plan-def
+use Rattle.plans.proofs.read_plan.Symbol.{name as #read-plan}
+use Rattle.plans.proofs.read_plan.Met as read-plan-thm
 use Rattle.list_calls.proofs.arrays.read_in.Key.{name as #key}
 use Rattle.list_calls.proofs.arrays.read_in as self
 use Rattle.list_calls.proofs.arrays.read_in.Statement as stated
@@ -312,5 +312,4 @@ read-in-spec 𝓤 H 𝓜 𝓖 𝓡 =
     entered 𝓤 H (tripleOf 𝓤 H (𝓖 .A) self.signature (self.spec 𝓤 H (𝓖 .A) (𝓜 .mem) (𝓡 .run)))
     (tables 𝓤 H 𝓜 𝓡 code.env .C) (tables 𝓤 H 𝓜 𝓡 code.env .Λ) #key code.function (code.unfolded 𝓤 H 𝓜 𝓡)
     (meets 𝓤 H (𝓖 .A) (givenOf 𝓤 H 𝓜 𝓖) (𝓜 .mem) (𝓡 .run) (tablesOf 𝓤 H 𝓜 (tables 𝓤 H 𝓜 𝓡 code.env))
-    (cited 𝓤 H (ReadPlan 𝓤 H (𝓖 .A) (𝓜 .mem) (𝓡 .run))
-    𝓜 𝓡 code.env #read-plan read-plan-def.routine code.calls-plan-file·read-plan (read-plan-thm.met 𝓤 H 𝓜 𝓖 𝓡)))
+    (cited 𝓤 H (ReadPlan 𝓤 H (𝓖 .A) (𝓜 .mem) (𝓡 .run)) 𝓜 𝓡 code.env #read-plan read-plan-def.routine code.calls-plans·read-plan (read-plan-thm.met 𝓤 H 𝓜 𝓖 𝓡)))

@@ -59,10 +59,10 @@ use Rattle.series.proofs.plans.SeriesAnswer as F
 use Rattle.series.proofs.plans.SeriesAnswer.Laws as F′
 use Rattle.list_calls.proofs.arrays.SeriesLent as S
 use Rattle.list_calls.proofs.arrays.SeriesLent.Laws as S′
-use Rattle.series.proofs.series as series
-use Rattle.series.proofs.series.Symbol as series-def
-use Rattle.series.proofs.series.Symbol.{name as #series}
-use Rattle.series.proofs.series.Met as series-thm
+use Rattle.plans.proofs.series as series
+use Rattle.plans.proofs.series.Symbol as series-def
+use Rattle.plans.proofs.series.Symbol.{name as #series}
+use Rattle.plans.proofs.series.Met as series-thm
 use Rattle.list_calls.proofs.arrays.series_in.Key.{name as #key}
 use Rattle.list_calls.proofs.arrays.series_in as self
 use Rattle.list_calls.proofs.arrays.series_in.Statement as stated
@@ -336,4 +336,4 @@ series-in-spec 𝓤 H 𝓜 𝓖 𝓡 =
     entered 𝓤 H (tripleOf 𝓤 H (𝓖 .A) self.signature (self.spec 𝓤 H (𝓖 .A) (𝓜 .mem) (𝓡 .run)))
     (tables 𝓤 H 𝓜 𝓡 code.env .C) (tables 𝓤 H 𝓜 𝓡 code.env .Λ) #key code.function (code.unfolded 𝓤 H 𝓜 𝓡)
     (meets 𝓤 H (𝓖 .A) (givenOf 𝓤 H 𝓜 𝓖) (𝓜 .mem) (𝓡 .run) (tablesOf 𝓤 H 𝓜 (tables 𝓤 H 𝓜 𝓡 code.env))
-    (cited 𝓤 H (Series 𝓤 H (𝓖 .A) (𝓜 .mem) (𝓡 .run)) 𝓜 𝓡 code.env #series series-def.routine code.calls-series·series (series-thm.met 𝓤 H 𝓜 𝓖 𝓡)))
+    (cited 𝓤 H (Series 𝓤 H (𝓖 .A) (𝓜 .mem) (𝓡 .run)) 𝓜 𝓡 code.env #series series-def.routine code.calls-plans·series (series-thm.met 𝓤 H 𝓜 𝓖 𝓡)))

@@ -57,10 +57,10 @@ use Rattle.plan_file.proofs.plans.PlanFigures.Laws as P′
 use Rattle.encoding.specs.declared.fills.FillAnswer.{FillAnswer}
 use Rattle.encoding.proofs.fills.FillAnswer as F
 use Rattle.encoding.proofs.fills.FillAnswer.Laws as F′
-use Rattle.plan_file.proofs.write_plan as write-plan
-use Rattle.plan_file.proofs.write_plan.Symbol as write-plan-def
-use Rattle.plan_file.proofs.write_plan.Symbol.{name as #write-plan}
-use Rattle.plan_file.proofs.write_plan.Met as write-plan-thm
+use Rattle.plans.proofs.write_plan as write-plan
+use Rattle.plans.proofs.write_plan.Symbol as write-plan-def
+use Rattle.plans.proofs.write_plan.Symbol.{name as #write-plan}
+use Rattle.plans.proofs.write_plan.Met as write-plan-thm
 use Rattle.list_calls.proofs.arrays.write_in.Key.{name as #key}
 use Rattle.list_calls.proofs.arrays.write_in as self
 use Rattle.list_calls.proofs.arrays.write_in.Statement as stated
@@ -310,4 +310,4 @@ write-in-spec 𝓤 H 𝓜 𝓖 𝓡 =
     (tables 𝓤 H 𝓜 𝓡 code.env .C) (tables 𝓤 H 𝓜 𝓡 code.env .Λ) #key code.function (code.unfolded 𝓤 H 𝓜 𝓡)
     (meets 𝓤 H (𝓖 .A) (givenOf 𝓤 H 𝓜 𝓖) (𝓜 .mem) (𝓡 .run) (tablesOf 𝓤 H 𝓜 (tables 𝓤 H 𝓜 𝓡 code.env))
     (cited 𝓤 H (WritePlan 𝓤 H (𝓖 .A) (𝓜 .mem) (𝓡 .run))
-    𝓜 𝓡 code.env #write-plan write-plan-def.routine code.calls-plan-file·write-plan (write-plan-thm.met 𝓤 H 𝓜 𝓖 𝓡)))
+    𝓜 𝓡 code.env #write-plan write-plan-def.routine code.calls-plans·write-plan (write-plan-thm.met 𝓤 H 𝓜 𝓖 𝓡)))

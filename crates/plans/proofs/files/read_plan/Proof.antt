@@ -1,4 +1,4 @@
--- `plan_file::plans::read_plan` meets its contract. Three local arrays are lent to `read_lists`, which reads into them, and then
+-- `plans::files::read_plan` meets its contract. Three local arrays are lent to `read_lists`, which reads into them, and then
 -- to `store_records`, which stores as many records in the lent list as `buckets_of` says the answer has. Of the three
 -- functions the proof knows only the contracts.
 -- Assumes nothing.
@@ -51,30 +51,30 @@ use Rattle.terms.specs.Answer.{figures}
 use Rattle.terms.specs.Lent.{filled}
 use Rattle.record_list.specs.Lists.{Filled, Wide, lists, recordsOf, roomOf, counted}
 use Rattle.record_list.specs.ListLaws.{stored-answer, room-is, wide-zeros}
 use Rattle.plan_file.specs.CallLaws.{count-is, count-fits}
 use Rattle.plan_file.specs.Plan.{bucketsOf, figuresOf, planSays, readPlan}
 use Rattle.terms.specs.declared.BucketRecord.{BucketRecord}
 use Rattle.terms.proofs.BucketRecord as T
 use Rattle.plan_file.specs.declared.plans.PlanAnswer.{PlanAnswer}
 use Rattle.plan_file.proofs.plans.PlanAnswer as An
 use Rattle.plan_file.proofs.plans.PlanAnswer.Laws as An′
 use Rattle.plan_file.proofs.lists.read_lists as read-lists
 use Rattle.plan_file.proofs.lists.read_lists.Symbol as read-lists-def
 use Rattle.plan_file.proofs.lists.read_lists.Symbol.{name as #read-lists}
 use Rattle.plan_file.proofs.lists.read_lists.Met as read-lists-thm
-use Rattle.plan_file.proofs.plans.buckets_of as buckets-of
-use Rattle.plan_file.proofs.plans.buckets_of.Symbol as buckets-of-def
-use Rattle.plan_file.proofs.plans.buckets_of.Symbol.{name as #buckets-of}
-use Rattle.plan_file.proofs.plans.buckets_of.Met as buckets-of-thm
+use Rattle.plans.proofs.files.buckets_of as buckets-of
+use Rattle.plans.proofs.files.buckets_of.Symbol as buckets-of-def
+use Rattle.plans.proofs.files.buckets_of.Symbol.{name as #buckets-of}
+use Rattle.plans.proofs.files.buckets_of.Met as buckets-of-thm
 use Rattle.record_list.proofs.copies.store_records as store-records
 use Rattle.record_list.proofs.copies.store_records.Symbol as store-records-def
 use Rattle.record_list.proofs.copies.store_records.Symbol.{name as #store-records}
 use Rattle.record_list.proofs.copies.store_records.Met as store-records-thm
-use Rattle.plan_file.proofs.plans.read_plan.Key.{name as #key}
-use Rattle.plan_file.proofs.plans.read_plan as self
-use Rattle.plan_file.proofs.plans.read_plan.Statement as stated
-use Rattle.plan_file.proofs.plans.read_plan.Code as code
-use Rattle.plan_file.proofs.plans.read_plan.Code.Mir as mir
+use Rattle.plans.proofs.files.read_plan.Key.{name as #key}
+use Rattle.plans.proofs.files.read_plan as self
+use Rattle.plans.proofs.files.read_plan.Statement as stated
+use Rattle.plans.proofs.files.read_plan.Code as code
+use Rattle.plans.proofs.files.read_plan.Code.Mir as mir
 
 abbrev stayed : Stays (self.ended .signature .params) (self.ended .kept)
 stayed = (stay-none-slice (0 ∷ []) tt (plain (λ _. u8)) yes, (gave-slice (1 ∷ []) tt (plain (λ _. T.the-row)), tt))
@@ -158,7 +158,7 @@ module _ {M : Type 1} (𝓤 : URA M) (H : Heap 𝓤) (A : Atoms 𝓤) (W : Given
           []
 
       module _ (zeros : List ℕ) (answer : PlanAnswer) (answer-val : Val) (answer-is : Is An.the-row answer (answer-val ∷ [])) (lengths rates depths : List ℕ)
-          (answered : planSays answer ≡ figuresOf (readPlan (length list) bytes)) (was-read : Filled (bucketsOf (readPlan (length list) bytes))
+          (answered : planSays answer ≡ figuresOf (readPlan (length list) bytes)) (held : Filled (bucketsOf (readPlan (length list) bytes))
           (lists zeros zeros zeros) (lists lengths rates depths)) (count : ℕ) (counted : count ≡ counted (λ x. x .buckets) (planSays answer)) (α₄ α₅ α₆ : ℕ)
           (after : List BucketRecord) (after-long : length after ≡ length list) (stored : after ≡ filled (figures (recordsOf count lengths rates depths)) list)
         where
@@ -171,7 +171,7 @@ module _ {M : Type 1} (𝓤 : URA M) (H : Heap 𝓤) (A : Atoms 𝓤) (W : Given
               says ! (
                 answered,
                 stored ∙ stored-answer (bucketsOf (readPlan (length list) bytes)) (lists zeros zeros zeros) (lists lengths rates depths)
-                    was-read list count (is-count answer count answered counted),
+                    held list count (is-count answer count answered counted),
               ) $
               nothing ! $ move ! (2 ∷ 0 ∷ []) $ join ! $ move ! (1 ∷ 0 ∷ []) $ join ! $ frame ! $ nothing ! $ move ! (2 ∷ 0 ∷ []) $ fjoin ! $
               move ! (1 ∷ 0 ∷ []) $ fjoin ! $ frame ! $
@@ -219,7 +219,7 @@ module _ {M : Type 1} (𝓤 : URA M) (H : Heap 𝓤) (A : Atoms 𝓤) (W : Given
 
       module _ (zeros : List ℕ) (answer : PlanAnswer) (answer-val : Val) (answer-is : Is An.the-row answer (answer-val ∷ [])) (lengths rates depths : List ℕ)
           (lengths-long : length lengths ≡ 512) (rates-long : length rates ≡ 512) (depths-long : length depths ≡ 512)
-          (answered : planSays answer ≡ figuresOf (readPlan (length list) bytes)) (was-read : Filled (bucketsOf (readPlan (length list) bytes))
+          (answered : planSays answer ≡ figuresOf (readPlan (length list) bytes)) (held : Filled (bucketsOf (readPlan (length list) bytes))
           (lists zeros zeros zeros) (lists lengths rates depths)) (count : ℕ) (count-fits : count < 2 ^ 64) (counted : count ≡ counted (λ x. x .buckets)
           (planSays answer)) where
         module _ (α₄ α₅ α₆ : ℕ) (γ′₄ γ′₅ γ′₆ : GName) where
@@ -367,11 +367,11 @@ module _ {M : Type 1} (𝓤 : URA M) (H : Heap 𝓤) (A : Atoms 𝓤) (W : Given
             land ! (from ! (stop !)) (init ! 22 refl ((nothing-lawful 𝓤 H A W) .typed u (u-val ∷ []) u-is .0)) $ forget ! 12 refl $ forget ! 14 refl $
             forget ! 22 refl $ forget ! 23 refl $ forget ! 24 refl $ forget ! 25 refl $ forget ! 26 refl $ forget ! 27 refl $ forget ! 28 refl $
             forget ! 29 refl $ forget ! 30 refl $
-            ending zeros answer answer-val answer-is lengths rates depths answered was-read count counted α₄ α₅ α₆ (last .0) after-long stored))))))))))))
+            ending zeros answer answer-val answer-is lengths rates depths answered held count counted α₄ α₅ α₆ (last .0) after-long stored))))))))))))
 
       module _ (zeros : List ℕ) (α₁ α₂ α₃ : ℕ) (γ′₁ γ′₂ γ′₃ : GName) (answer : PlanAnswer) (answer-val : Val) (answer-is : Is An.the-row answer (answer-val ∷
           [])) (lengths rates depths : List ℕ) (lengths-long : length lengths ≡ 512) (rates-long : length rates ≡ 512) (depths-long : length depths ≡ 512)
-          (answered : planSays answer ≡ figuresOf (readPlan (length list) bytes)) (was-read : Filled (bucketsOf (readPlan (length list) bytes))
+          (answered : planSays answer ≡ figuresOf (readPlan (length list) bytes)) (held : Filled (bucketsOf (readPlan (length list) bytes))
           (lists zeros zeros zeros) (lists lengths rates depths)) where
         abbrev to-counting : BucketsOf 𝓤 H A at-mem run .Ghost
         to-counting = ((tt, tt, tt, (answer, tt), (answer-val ∷ [], tt)), tt)
@@ -425,8 +425,7 @@ module _ {M : Type 1} (𝓤 : URA M) (H : Heap 𝓤) (A : Atoms 𝓤) (W : Given
             drop ! $ split ! $ move ! (1 ∷ []) $ facts ! usize (Is usize) (shows 𝓤 H A usize) count (count-val ∷ []) (λ count-is. drop ! $
             land ! (from ! (stop !)) (init ! 11 refl ((uint-lawful 𝓤 H A W w64) .typed count (count-val ∷ []) count-is .0)) $
             rewrite ! 11 (λ (v : Val). ‵ (fat fullShare (tyInt w64) l₇ 0 v)) (ap only (count-is .0)) refl $
-            storing zeros answer answer-val answer-is lengths rates depths lengths-long rates-long depths-long answered was-read count (count-is .1)
-            counted)))))
+            storing zeros answer answer-val answer-is lengths rates depths lengths-long rates-long depths-long answered held count (count-is .1) counted)))))
 
       module _ (zeros : List ℕ) (zeros-long : length zeros ≡ 512) (wide : Wide zeros zeros zeros) where
         module _ (α₁ α₂ α₃ : ℕ) (γ′₁ γ′₂ γ′₃ : GName) where
@@ -598,7 +597,7 @@ module _ {M : Type 1} (𝓤 : URA M) (H : Heap 𝓤) (A : Atoms 𝓤) (W : Given
             (lists zeros zeros zeros) (lists (last .1 .1 .0) (last .1 .1 .1 .0) (last .1 .1 .1 .1 .0)))))) (id⊢ 𝓤 _) $
             pick ! (λ last. split ! $ move ! (1 ∷ []) $ split ! $ heard ! (planSays answer ≡ figuresOf (readPlan (length list) bytes)) (λ answered.
             heard ! (Filled (bucketsOf (readPlan (length list) bytes)) (lists zeros zeros zeros) (lists (last .1 .1 .0) (last .1 .1 .1 .0)
-            (last .1 .1 .1 .1 .0))) (λ was-read.
+            (last .1 .1 .1 .1 .0))) (λ held.
             fsplit ! $ drop ! $ fsplit ! $ drop ! $ fsplit ! $ fsplit ! $ move ! (1 ∷ []) $ feqL ! (λ lengths-long. move ! (1 ∷ []) $ fsplit ! $
             fsplit ! $ move ! (1 ∷ []) $ feqL ! (λ rates-long. move ! (1 ∷ []) $ fsplit ! $ fsplit ! $ move ! (1 ∷ []) $ feqL ! (λ depths-long.
             move ! (1 ∷ []) $ drop ! $ move ! (3 ∷ []) $ split ! $ move ! (1 ∷ []) $
@@ -608,7 +607,7 @@ module _ {M : Type 1} (𝓤 : URA M) (H : Heap 𝓤) (A : Atoms 𝓤) (W : Given
             forget ! 14 refl $ forget ! 18 refl $ forget ! 19 refl $ forget ! 20 refl $ forget ! 21 refl $ forget ! 22 refl $ forget ! 23 refl $
             forget ! 24 refl $
             counting zeros α₁ α₂ α₃ γ′₁ γ′₂ γ′₃ answer answer-val answer-is (last .1 .1 .0) (last .1 .1 .1 .0) (last .1 .1 .1 .1 .0)
-            (lengths-long ∙ zeros-long) (rates-long ∙ zeros-long) (depths-long ∙ zeros-long) answered was-read)))))))))))))))
+            (lengths-long ∙ zeros-long) (rates-long ∙ zeros-long) (depths-long ∙ zeros-long) answered held)))))))))))))))
 
       starting : Sq W (‵ (ShrSlice (named 0) κ₀ u8 .own x₀ (s₀ ∷ [])) ∷ ‵ (MutSlice (named 1) κ₁ T.the-row .own x₁ (s₁ ∷ [])) ∷ ‵ (flft κ₀ q₀) ∷ ‵ (flft κ₁ q₁)
           ∷ ‵ (froom An′.mir l₀ 0) ∷ ‵ (fat fullShare (sliceTy (tyRef (named 0) imm (tyInt w8))) l₁ 0 s₀) ∷ ‵ (fat fullShare (sliceTy (tyRef (named 1)
@@ -694,6 +693,6 @@ read-plan-spec 𝓤 H 𝓜 𝓖 𝓡 =
     (cited 𝓤 H (ReadLists 𝓤 H (𝓖 .A) (𝓜 .mem) (𝓡 .run))
     𝓜 𝓡 code.env #read-lists read-lists-def.routine code.calls-plan-file·lists·read-lists (read-lists-thm.met 𝓤 H 𝓜 𝓖 𝓡))
     (cited 𝓤 H (BucketsOf 𝓤 H (𝓖 .A) (𝓜 .mem) (𝓡 .run))
-    𝓜 𝓡 code.env #buckets-of buckets-of-def.routine code.calls-plan-file·plans·buckets-of (buckets-of-thm.met 𝓤 H 𝓜 𝓖 𝓡))
+    𝓜 𝓡 code.env #buckets-of buckets-of-def.routine code.calls-plans·files·buckets-of (buckets-of-thm.met 𝓤 H 𝓜 𝓖 𝓡))
     (cited 𝓤 H (StoreRecords 𝓤 H (𝓖 .A) (𝓜 .mem) (𝓡 .run))
     𝓜 𝓡 code.env #store-records store-records-def.routine code.calls-record-list·copies·store-records (store-records-thm.met 𝓤 H 𝓜 𝓖 𝓡)))

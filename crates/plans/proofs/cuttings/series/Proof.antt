@@ -1,4 +1,4 @@
--- `series::plans::series` meets its contract. Three local arrays are lent to `plan_lists`, which plans into them, and then
+-- `plans::cuttings::series` meets its contract. Three local arrays are lent to `plan_lists`, which plans into them, and then
 -- to `store_records`, which stores as many records in the lent list as `buckets_of` says the answer has. Of the three
 -- functions the proof knows only the contracts.
 -- Assumes nothing.
@@ -52,33 +52,33 @@ use Rattle.terms.specs.Answer.{figures}
 use Rattle.terms.specs.Lent.{filled}
 use Rattle.record_list.specs.Lists.{Filled, Wide, lists, recordsOf, roomOf, counted}
 use Rattle.record_list.specs.ListLaws.{stored-answer, room-is, wide-zeros}
 use Rattle.series.specs.CallLaws.{count-is, count-fits}
 use Rattle.series.specs.Series.{planOf, seriesOf, seriesSays}
 use Rattle.terms.specs.declared.BucketRecord.{BucketRecord}
 use Rattle.terms.proofs.BucketRecord as T
 use Rattle.terms.specs.declared.Tariff.{Tariff}
 use Rattle.terms.proofs.Tariff as Ta
 use Rattle.terms.proofs.Tariff.Laws as Ta′
 use Rattle.series.specs.declared.plans.SeriesAnswer.{SeriesAnswer}
 use Rattle.series.proofs.plans.SeriesAnswer as An
 use Rattle.series.proofs.plans.SeriesAnswer.Laws as An′
 use Rattle.series.proofs.lists.plan_lists as plan-lists
 use Rattle.series.proofs.lists.plan_lists.Symbol as plan-lists-def
 use Rattle.series.proofs.lists.plan_lists.Symbol.{name as #plan-lists}
 use Rattle.series.proofs.lists.plan_lists.Met as plan-lists-thm
-use Rattle.series.proofs.plans.buckets_of as buckets-of
-use Rattle.series.proofs.plans.buckets_of.Symbol as buckets-of-def
-use Rattle.series.proofs.plans.buckets_of.Symbol.{name as #buckets-of}
-use Rattle.series.proofs.plans.buckets_of.Met as buckets-of-thm
+use Rattle.plans.proofs.cuttings.buckets_of as buckets-of
+use Rattle.plans.proofs.cuttings.buckets_of.Symbol as buckets-of-def
+use Rattle.plans.proofs.cuttings.buckets_of.Symbol.{name as #buckets-of}
+use Rattle.plans.proofs.cuttings.buckets_of.Met as buckets-of-thm
 use Rattle.record_list.proofs.copies.store_records as store-records
 use Rattle.record_list.proofs.copies.store_records.Symbol as store-records-def
 use Rattle.record_list.proofs.copies.store_records.Symbol.{name as #store-records}
 use Rattle.record_list.proofs.copies.store_records.Met as store-records-thm
-use Rattle.series.proofs.plans.series.Key.{name as #key}
-use Rattle.series.proofs.plans.series as self
-use Rattle.series.proofs.plans.series.Statement as stated
-use Rattle.series.proofs.plans.series.Code as code
-use Rattle.series.proofs.plans.series.Code.Mir as mir
+use Rattle.plans.proofs.cuttings.series.Key.{name as #key}
+use Rattle.plans.proofs.cuttings.series as self
+use Rattle.plans.proofs.cuttings.series.Statement as stated
+use Rattle.plans.proofs.cuttings.series.Code as code
+use Rattle.plans.proofs.cuttings.series.Code.Mir as mir
 
 abbrev stayed : Stays (self.ended .signature .params) (self.ended .kept)
 stayed = (stay-none-slice (0 ∷ []) tt (plain (λ _. u16)) yes, (stay-none (λ _. Ta.the-row) yes, (gave-slice (1 ∷ []) tt (plain (λ _. T.the-row)), tt)))
@@ -162,7 +162,7 @@ module _ {M : Type 1} (𝓤 : URA M) (H : Heap 𝓤) (A : Atoms 𝓤) (W : Given
           []
 
       module _ (zeros : List ℕ) (answer : SeriesAnswer) (answer-val : Val) (answer-is : Is An.the-row answer (answer-val ∷ [])) (lengths rates depths : List ℕ)
-          (answered : seriesSays answer ≡ planOf tariff (seriesOf tariff (length list) trace)) (planned : Filled (seriesOf tariff (length list) trace)
+          (answered : seriesSays answer ≡ planOf tariff (seriesOf tariff (length list) trace)) (held : Filled (seriesOf tariff (length list) trace)
           (lists zeros zeros zeros) (lists lengths rates depths)) (count : ℕ) (counted : count ≡ counted (λ x. x .buckets) (seriesSays answer)) (α₄ α₅ α₆ : ℕ)
           (after : List BucketRecord) (after-long : length after ≡ length list) (stored : after ≡ filled (figures (recordsOf count lengths rates depths)) list)
         where
@@ -175,7 +175,7 @@ module _ {M : Type 1} (𝓤 : URA M) (H : Heap 𝓤) (A : Atoms 𝓤) (W : Given
               says ! (
                 answered,
                 stored ∙ stored-answer (seriesOf tariff (length list) trace) (lists zeros zeros zeros) (lists lengths rates depths)
-                    planned list count (is-count answer count answered counted),
+                    held list count (is-count answer count answered counted),
               ) $
               nothing ! $ move ! (2 ∷ 0 ∷ []) $ join ! $ move ! (1 ∷ 0 ∷ []) $ join ! $ frame ! $ nothing ! $
               owned ! Ta.the-row (Is Ta.the-row) (LL.makes Ta.the-type Ta′.the-plain 𝓤 H A) tariff (tariff-val ∷ []) tariff-is $ move ! (3 ∷ 1 ∷ []) $
@@ -225,7 +225,7 @@ module _ {M : Type 1} (𝓤 : URA M) (H : Heap 𝓤) (A : Atoms 𝓤) (W : Given
 
       module _ (zeros : List ℕ) (answer : SeriesAnswer) (answer-val : Val) (answer-is : Is An.the-row answer (answer-val ∷ [])) (lengths rates depths : List ℕ)
           (lengths-long : length lengths ≡ 512) (rates-long : length rates ≡ 512) (depths-long : length depths ≡ 512)
-          (answered : seriesSays answer ≡ planOf tariff (seriesOf tariff (length list) trace)) (planned : Filled (seriesOf tariff (length list) trace)
+          (answered : seriesSays answer ≡ planOf tariff (seriesOf tariff (length list) trace)) (held : Filled (seriesOf tariff (length list) trace)
           (lists zeros zeros zeros) (lists lengths rates depths)) (count : ℕ) (count-fits : count < 2 ^ 64) (counted : count ≡ counted (λ x. x .buckets)
           (seriesSays answer)) where
         module _ (α₄ α₅ α₆ : ℕ) (γ′₄ γ′₅ γ′₆ : GName) where
@@ -374,11 +374,11 @@ module _ {M : Type 1} (𝓤 : URA M) (H : Heap 𝓤) (A : Atoms 𝓤) (W : Given
             land ! (from ! (stop !)) (init ! 23 refl ((nothing-lawful 𝓤 H A W) .typed u (u-val ∷ []) u-is .0)) $ forget ! 13 refl $ forget ! 15 refl $
             forget ! 23 refl $ forget ! 24 refl $ forget ! 25 refl $ forget ! 26 refl $ forget ! 27 refl $ forget ! 28 refl $ forget ! 29 refl $
             forget ! 30 refl $ forget ! 31 refl $
-            ending zeros answer answer-val answer-is lengths rates depths answered planned count counted α₄ α₅ α₆ (last .0) after-long stored))))))))))))
+            ending zeros answer answer-val answer-is lengths rates depths answered held count counted α₄ α₅ α₆ (last .0) after-long stored))))))))))))
 
       module _ (zeros : List ℕ) (α₁ α₂ α₃ : ℕ) (γ′₁ γ′₂ γ′₃ : GName) (answer : SeriesAnswer) (answer-val : Val) (answer-is : Is An.the-row answer (answer-val ∷
           [])) (lengths rates depths : List ℕ) (lengths-long : length lengths ≡ 512) (rates-long : length rates ≡ 512) (depths-long : length depths ≡ 512)
-          (answered : seriesSays answer ≡ planOf tariff (seriesOf tariff (length list) trace)) (planned : Filled (seriesOf tariff (length list) trace)
+          (answered : seriesSays answer ≡ planOf tariff (seriesOf tariff (length list) trace)) (held : Filled (seriesOf tariff (length list) trace)
           (lists zeros zeros zeros) (lists lengths rates depths)) where
         abbrev to-counting : BucketsOf 𝓤 H A at-mem run .Ghost
         to-counting = ((tt, tt, tt, (answer, tt), (answer-val ∷ [], tt)), tt)
@@ -433,7 +433,7 @@ module _ {M : Type 1} (𝓤 : URA M) (H : Heap 𝓤) (A : Atoms 𝓤) (W : Given
             drop ! $ split ! $ move ! (1 ∷ []) $ facts ! usize (Is usize) (shows 𝓤 H A usize) count (count-val ∷ []) (λ count-is. drop ! $
             land ! (from ! (stop !)) (init ! 12 refl ((uint-lawful 𝓤 H A W w64) .typed count (count-val ∷ []) count-is .0)) $
             rewrite ! 12 (λ (v : Val). ‵ (fat fullShare (tyInt w64) l₈ 0 v)) (ap only (count-is .0)) refl $
-            storing zeros answer answer-val answer-is lengths rates depths lengths-long rates-long depths-long answered planned count (count-is .1) counted)))))
+            storing zeros answer answer-val answer-is lengths rates depths lengths-long rates-long depths-long answered held count (count-is .1) counted)))))
 
       module _ (zeros : List ℕ) (zeros-long : length zeros ≡ 512) (wide : Wide zeros zeros zeros) where
         module _ (α₁ α₂ α₃ : ℕ) (γ′₁ γ′₂ γ′₃ : GName) where
@@ -625,7 +625,7 @@ module _ {M : Type 1} (𝓤 : URA M) (H : Heap 𝓤) (A : Atoms 𝓤) (W : Given
             pick ! (λ last. split ! $ move ! (1 ∷ []) $ split ! $
             heard ! (seriesSays answer ≡ planOf tariff (seriesOf tariff (length list) trace)) (λ answered.
             heard ! (Filled (seriesOf tariff (length list) trace) (lists zeros zeros zeros) (lists (last .1 .1 .1 .0) (last .1 .1 .1 .1 .0)
-            (last .1 .1 .1 .1 .1 .0))) (λ planned.
+            (last .1 .1 .1 .1 .1 .0))) (λ held.
             fsplit ! $ drop ! $ fsplit ! $ drop ! $ fsplit ! $ drop ! $ fsplit ! $ fsplit ! $ move ! (1 ∷ []) $ feqL ! (λ lengths-long. move ! (1 ∷ []) $
             fsplit ! $ fsplit ! $ move ! (1 ∷ []) $ feqL ! (λ rates-long. move ! (1 ∷ []) $ fsplit ! $ fsplit ! $ move ! (1 ∷ []) $ feqL ! (λ depths-long.
             move ! (1 ∷ []) $ drop ! $ move ! (3 ∷ []) $ split ! $ move ! (1 ∷ []) $
@@ -635,7 +635,7 @@ module _ {M : Type 1} (𝓤 : URA M) (H : Heap 𝓤) (A : Atoms 𝓤) (W : Given
             forget ! 14 refl $ forget ! 15 refl $ forget ! 19 refl $ forget ! 20 refl $ forget ! 21 refl $ forget ! 22 refl $ forget ! 23 refl $
             forget ! 24 refl $ forget ! 25 refl $
             counting zeros α₁ α₂ α₃ γ′₁ γ′₂ γ′₃ answer answer-val answer-is (last .1 .1 .1 .0) (last .1 .1 .1 .1 .0) (last .1 .1 .1 .1 .1 .0)
-            (lengths-long ∙ zeros-long) (rates-long ∙ zeros-long) (depths-long ∙ zeros-long) answered planned)))))))))))))))
+            (lengths-long ∙ zeros-long) (rates-long ∙ zeros-long) (depths-long ∙ zeros-long) answered held)))))))))))))))
 
       starting : Sq W (‵ (ShrSlice (named 0) κ₀ u16 .own x₀ (s₀ ∷ [])) ∷ ‵ (MutSlice (named 1) κ₁ T.the-row .own x₁ (s₁ ∷ [])) ∷ ‵ (flft κ₀ q₀) ∷
           ‵ (flft κ₁ q₁) ∷ ‵ (froom An′.mir l₀ 0) ∷ ‵ (fat fullShare (sliceTy (tyRef (named 0) imm (tyInt w16))) l₁ 0 s₀) ∷
@@ -730,6 +730,6 @@ series-spec 𝓤 H 𝓜 𝓖 𝓡 =
     (cited 𝓤 H (PlanLists 𝓤 H (𝓖 .A) (𝓜 .mem) (𝓡 .run))
     𝓜 𝓡 code.env #plan-lists plan-lists-def.routine code.calls-series·lists·plan-lists (plan-lists-thm.met 𝓤 H 𝓜 𝓖 𝓡))
     (cited 𝓤 H (BucketsOf 𝓤 H (𝓖 .A) (𝓜 .mem) (𝓡 .run))
-    𝓜 𝓡 code.env #buckets-of buckets-of-def.routine code.calls-series·plans·buckets-of (buckets-of-thm.met 𝓤 H 𝓜 𝓖 𝓡))
+    𝓜 𝓡 code.env #buckets-of buckets-of-def.routine code.calls-plans·cuttings·buckets-of (buckets-of-thm.met 𝓤 H 𝓜 𝓖 𝓡))
     (cited 𝓤 H (StoreRecords 𝓤 H (𝓖 .A) (𝓜 .mem) (𝓡 .run))
     𝓜 𝓡 code.env #store-records store-records-def.routine code.calls-record-list·copies·store-records (store-records-thm.met 𝓤 H 𝓜 𝓖 𝓡)))

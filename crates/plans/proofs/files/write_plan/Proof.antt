@@ -1,4 +1,4 @@
--- `plan_file::plans::write_plan` meets its contract. As many records as `load_count` says are loaded from the lent list into three
+-- `plans::files::write_plan` meets its contract. As many records as `load_count` says are loaded from the lent list into three
 -- local arrays, and `write_lists` writes the plan from these. Of the three functions the proof knows only the contracts.
 -- Assumes nothing.
 use mathlib.Core.Path.{_≡_, refl, _∙_, ap}
@@ -49,36 +49,36 @@ use native.Mathlib.Nat.{le-trans}
 use Rattle.record_list.proofs.Lent.{Elems, array-in, array-room, lends-mut, mut-back, lends-imm}
 use Rattle.terms.specs.Answer.{Answer, figures, onFigures}
 use Rattle.terms.specs.Lent.{filled}
-use Rattle.encoding.specs.Fill.{fillSays}
-use Rattle.record_list.specs.Lists.{Filled, Wide, lists, recordsOf, roomOf}
+use Rattle.record_list.specs.Lists.{Filled, Wide, lists, recordsOf, roomOf, counted}
 use Rattle.record_list.specs.ListLaws.{room-is, wide-zeros}
+use Rattle.encoding.specs.Fill.{fillSays}
 use Rattle.plan_file.specs.CallLaws.{loadCount, load-fits, loaded-records}
 use Rattle.plan_file.specs.Plan.{planFile}
 use Rattle.terms.specs.declared.BucketRecord.{BucketRecord}
 use Rattle.terms.proofs.BucketRecord as T
 use Rattle.plan_file.specs.declared.plans.PlanFigures.{PlanFigures}
 use Rattle.plan_file.proofs.plans.PlanFigures as Pf
 use Rattle.plan_file.proofs.plans.PlanFigures.Laws as Pf′
 use Rattle.encoding.specs.declared.fills.FillAnswer.{FillAnswer}
 use Rattle.encoding.proofs.fills.FillAnswer as Fi
 use Rattle.encoding.proofs.fills.FillAnswer.Laws as Fi′
-use Rattle.plan_file.proofs.plans.load_count as load-count
-use Rattle.plan_file.proofs.plans.load_count.Symbol as load-count-def
-use Rattle.plan_file.proofs.plans.load_count.Symbol.{name as #load-count}
-use Rattle.plan_file.proofs.plans.load_count.Met as load-count-thm
+use Rattle.plans.proofs.files.load_count as load-count
+use Rattle.plans.proofs.files.load_count.Symbol as load-count-def
+use Rattle.plans.proofs.files.load_count.Symbol.{name as #load-count}
+use Rattle.plans.proofs.files.load_count.Met as load-count-thm
 use Rattle.record_list.proofs.copies.load_records as load-records
 use Rattle.record_list.proofs.copies.load_records.Symbol as load-records-def
 use Rattle.record_list.proofs.copies.load_records.Symbol.{name as #load-records}
 use Rattle.record_list.proofs.copies.load_records.Met as load-records-thm
 use Rattle.plan_file.proofs.lists.write_lists as write-lists
 use Rattle.plan_file.proofs.lists.write_lists.Symbol as write-lists-def
 use Rattle.plan_file.proofs.lists.write_lists.Symbol.{name as #write-lists}
 use Rattle.plan_file.proofs.lists.write_lists.Met as write-lists-thm
-use Rattle.plan_file.proofs.plans.write_plan.Key.{name as #key}
-use Rattle.plan_file.proofs.plans.write_plan as self
-use Rattle.plan_file.proofs.plans.write_plan.Statement as stated
-use Rattle.plan_file.proofs.plans.write_plan.Code as code
-use Rattle.plan_file.proofs.plans.write_plan.Code.Mir as mir
+use Rattle.plans.proofs.files.write_plan.Key.{name as #key}
+use Rattle.plans.proofs.files.write_plan as self
+use Rattle.plans.proofs.files.write_plan.Statement as stated
+use Rattle.plans.proofs.files.write_plan.Code as code
+use Rattle.plans.proofs.files.write_plan.Code.Mir as mir
 
 abbrev stayed : Stays (self.ended .signature .params) (self.ended .kept)
 stayed = (stay-none (λ _. Pf.the-row) yes, (stay-none-slice (0 ∷ []) tt (plain (λ _. T.the-row)) yes, (gave-slice (1 ∷ []) tt (plain (λ _. u8)), tt)))
@@ -708,7 +708,7 @@ write-plan-spec 𝓤 H 𝓜 𝓖 𝓡 =
     (tables 𝓤 H 𝓜 𝓡 code.env .C) (tables 𝓤 H 𝓜 𝓡 code.env .Λ) #key code.function (code.unfolded 𝓤 H 𝓜 𝓡)
     (meets 𝓤 H (𝓖 .A) (givenOf 𝓤 H 𝓜 𝓖) (𝓜 .mem) (𝓡 .run) (tablesOf 𝓤 H 𝓜 (tables 𝓤 H 𝓜 𝓡 code.env))
     (cited 𝓤 H (LoadCount 𝓤 H (𝓖 .A) (𝓜 .mem) (𝓡 .run))
-    𝓜 𝓡 code.env #load-count load-count-def.routine code.calls-plan-file·plans·load-count (load-count-thm.met 𝓤 H 𝓜 𝓖 𝓡))
+    𝓜 𝓡 code.env #load-count load-count-def.routine code.calls-plans·files·load-count (load-count-thm.met 𝓤 H 𝓜 𝓖 𝓡))
     (cited 𝓤 H (LoadRecords 𝓤 H (𝓖 .A) (𝓜 .mem) (𝓡 .run))
     𝓜 𝓡 code.env #load-records load-records-def.routine code.calls-record-list·copies·load-records (load-records-thm.met 𝓤 H 𝓜 𝓖 𝓡))
     (cited 𝓤 H (WriteLists 𝓤 H (𝓖 .A) (𝓜 .mem) (𝓡 .run))

@@ -1,0 +1,68 @@
+// The plan file, read into a lent list of bucket records and written from one.
+use encoding::FillAnswer;
+use plan_file::PlanAnswer;
+use plan_file::PlanFigures;
+use plan_file::lists::read_lists;
+use plan_file::lists::write_lists;
+use record_list::copies::load_records;
+use record_list::copies::store_records;
+use terms::BucketRecord;
+use terms::limits::TRACE_LIMIT;
+use terms::numbers::shorter;
+ghost use mathlib.Core.Path.{_≡_};
+ghost use lib.ListN.{length};
+ghost use Rattle.terms.specs.Answer.{onFigures};
+ghost use Rattle.terms.specs.Lent.{filled};
+ghost use Rattle.encoding.specs.Fill.{fillSays};
+ghost use Rattle.record_list.specs.Lists.{counted};
+ghost use Rattle.plan_file.specs.CallLaws.{loadCount};
+ghost use Rattle.plan_file.specs.Plan.{bucketsOf, figuresOf, planSays, readPlan, writePlan};
+
+// Reads a plan from any bytes: T, the number of buckets and the cost; its records fill the front of
+// the lent list. Or refusal 1 to 5, or 6 (a list with fewer entries than buckets), and the list is
+// as it was.
+pub fn read_plan(bytes: &[u8], list: &mut [BucketRecord]) -> PlanAnswer
+    ensures { λ r. ⌜ (planSays r ≡ figuresOf (readPlan (length (now (list .entry))) (now (bytes .entry))))
+        × (now (list .exit) ≡ filled (bucketsOf (readPlan (length (now (list .entry))) (now (bytes .entry)))) (now (list .entry))) ⌝ }
+{
+    let mut runs = [0u32; TRACE_LIMIT];
+    let mut rates = [0u32; TRACE_LIMIT];
+    let mut depths = [0u32; TRACE_LIMIT];
+    let answer = read_lists(bytes, list.len(), &mut runs, &mut rates, &mut depths);
+    let count = buckets_of(answer);
+    store_records(list, &runs, &rates, &depths, count);
+    answer
+}
+
+// The number of buckets; none on a refusal.
+fn buckets_of(answer: PlanAnswer) -> usize
+    ensures { λ r. ⌜ r ≡ counted (λ x. x .buckets) (planSays answer) ⌝ }
+{
+    match answer {
+        PlanAnswer::Read(plan) => plan.buckets as usize,
+        PlanAnswer::Refused(_) => 0,
+    }
+}
+
+// Writes a plan into the front of the bytes, its records from the front of the list, and answers its
+// length; or refusal 3, 5 or 6 (a list with fewer entries than buckets, whose records are then not
+// weighed, or bytes fewer than the file), and the bytes are as they were.
+pub fn write_plan(plan: PlanFigures, list: &[BucketRecord], bytes: &mut [u8]) -> FillAnswer
+    ensures { λ r. ⌜ (fillSays r ≡ onFigures length (writePlan (length (now (bytes .entry))) plan (now (list .entry))))
+        × (now (bytes .exit) ≡ filled (writePlan (length (now (bytes .entry))) plan (now (list .entry))) (now (bytes .entry))) ⌝ }
+{
+    let mut runs = [0u32; TRACE_LIMIT];
+    let mut rates = [0u32; TRACE_LIMIT];
+    let mut depths = [0u32; TRACE_LIMIT];
+    let count = load_count(plan, list.len());
+    load_records(list, &mut runs, &mut rates, &mut depths, count);
+    write_lists(plan, list.len(), &runs, &rates, &depths, bytes)
+}
+
+// The records to be loaded: as many as buckets, but no more than the list or the longest plan has.
+fn load_count(plan: PlanFigures, room: usize) -> usize
+    ensures { λ r. ⌜ r ≡ loadCount (plan .buckets) room ⌝ }
+{
+    let buckets = plan.buckets as usize;
+    shorter(shorter(buckets, room), TRACE_LIMIT)
+}
