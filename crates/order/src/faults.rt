@@ -2,8 +2,8 @@
 use libc::STDERR_FILENO;
 use order_text::Cause;
 use order_text::Fault;
-use order_text::limit_of;
 use terms::Refusal;
+use typed_figures::limit_of;
 
 pub fn say(fault: Fault) {
     words(b"order: line ");

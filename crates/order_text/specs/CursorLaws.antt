@@ -12,14 +12,15 @@ use lib.Dec.{eqb}
 use lib.ListN.{length, take, drop, getD, set}
 use lib.Seq.{length-take-le, take-suc-set, getD-take}
 use Rattle.terms.specs.Bools.{true-false}
+use Rattle.typed_figures.specs.Decimal.{pushed}
+use Rattle.typed_figures.specs.Figures.{limitOf, figuresLimit, factorStands}
 use Rattle.order_text.specs.declared.faults.Cause.{Cause}
 use Rattle.order_text.specs.declared.faults.Cause.the-variants.{Above, Many, Factor}
 use Rattle.order_text.specs.declared.faults.Fault.{Fault}
 use Rattle.order_text.specs.declared.scan.Cursor.{Cursor}
 use Rattle.order_text.specs.declared.scan.Step.{Step}
 use Rattle.order_text.specs.declared.scan.Step.the-variants.{On, Faulty}
-use Rattle.order_text.specs.Decimal.{pushed}
-use Rattle.order_text.specs.Text.{read, faulty, limitOf, figuresLimit, factorStands, started, faultAt, newline, hash, unlessAbove, withDigit, closed, afterByte, scanned}
+use Rattle.order_text.specs.Text.{read, faulty, started, faultAt, newline, hash, unlessAbove, withDigit, closed, afterByte, scanned}
 use Rattle.order_text.specs.ScanLaws.{digit-many, digit-value, closed-factor, closed-figure, goes, goes-line, scanned-next, scanned-end}
 use Rattle.order_text.specs.Cursors.{scanOf, stepSays, Fits, StepFits, Steps, Passes}
 

@@ -5,10 +5,11 @@ use mathlib.Core.Path.{_≡_}
 use mathlib.Core.Bool.{true}
 use mathlib.Core.List.{List}
 use lib.ListN.{length, take}
+use Rattle.typed_figures.specs.Figures.{figuresLimit}
 use Rattle.order_text.specs.declared.scan.Cursor.{Cursor}
 use Rattle.order_text.specs.declared.scan.Step.{Step}
 use Rattle.order_text.specs.declared.scan.Step.the-variants.{On, Faulty}
-use Rattle.order_text.specs.Text.{Reading, read, faulty, Scan, figuresLimit, passed}
+use Rattle.order_text.specs.Text.{Reading, read, faulty, Scan, passed}
 
 abbrev pub scanOf : Cursor → List ℕ → Scan
 scanOf c xs = record { line = c .line; comment = c .comment; begun = c .begun; value = c .value; figures = take (c .count) xs }

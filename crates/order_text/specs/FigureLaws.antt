@@ -18,10 +18,12 @@ use Rattle.terms.specs.RangeLaws.{PeriodsRange, TariffRange, factor-range, peri
 use Rattle.encoding.specs.NumberLaws.{Fit}
 use Rattle.order_file.specs.Order.{orderLength, orderBytes}
 use Rattle.order_file.specs.OrderRules.{write-room, write-figures}
+use Rattle.typed_figures.specs.Figures.{tariffFigures, limitOf, figuresLimit, factorStands, tariffOf, demandsOf}
+use Rattle.typed_figures.specs.DecimalLaws.{push-limit}
+use Rattle.typed_figures.specs.LimitLaws.{limit-demand}
 use Rattle.order_text.specs.declared.faults.Cause.the-variants.{Few}
-use Rattle.order_text.specs.DecimalLaws.{push-limit}
-use Rattle.order_text.specs.Text.{read, faulty, thenRead, tariffFigures, limitOf, figuresLimit, factorStands, Scan, started, faultAt, closed, afterByte, scanned, enough, figuresOf, tariffOf, demandsOf, writeFigures}
-use Rattle.order_text.specs.ScanLaws.{read-faulty, same-read, then-read, limit-demand, Closes, idle, ended, Goes, inside, past, closes, goes}
+use Rattle.order_text.specs.Text.{read, faulty, thenRead, Scan, started, faultAt, closed, afterByte, scanned, enough, figuresOf, writeFigures}
+use Rattle.order_text.specs.ScanLaws.{read-faulty, same-read, then-read, Closes, idle, ended, Goes, inside, past, closes, goes}
 
 abbrev factorWith : ℕ → ℕ → Bool
 factorWith p q = factorOk (record { p = p; q = q })

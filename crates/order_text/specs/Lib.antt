@@ -1,6 +1,4 @@
 -- The definitions that contracts cite, and their laws.
-pub mod Decimal
-pub mod DecimalLaws
 pub mod Text
 pub mod ScanLaws
 pub mod Cursors

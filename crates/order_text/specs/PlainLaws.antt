@@ -15,9 +15,10 @@ use Rattle.terms.specs.Ranges.{factorOk}
 use Rattle.terms.specs.Records.{Each}
 use Rattle.encoding.specs.Number.{bytesOfAll}
 use Rattle.text.specs.Numeral.{numeral, ended}
-use Rattle.order_text.specs.Decimal.{isDigit}
-use Rattle.order_text.specs.DecimalLaws.{push-within, valueFrom, Digits, value-grows, value-digits, digits-are, digits-some}
-use Rattle.order_text.specs.Text.{Reading, read, onRead, thenRead, tariffLimits, limitOf, figuresLimit, factorStands, Scan, newline, passed, withValue, afterByte, scanned, figuresOf, plainText}
+use Rattle.typed_figures.specs.Decimal.{isDigit}
+use Rattle.typed_figures.specs.Figures.{tariffLimits, limitOf, figuresLimit, factorStands}
+use Rattle.typed_figures.specs.DecimalLaws.{push-within, valueFrom, Digits, value-grows, value-digits, digits-are, digits-some}
+use Rattle.order_text.specs.Text.{Reading, read, onRead, thenRead, Scan, newline, passed, withValue, afterByte, scanned, figuresOf, plainText}
 use Rattle.order_text.specs.ScanLaws.{digit-value, closed-figure, after-digit, after-end, text-closed, enough-all}
 use Rattle.order_text.specs.FigureLaws.{Figures}
 

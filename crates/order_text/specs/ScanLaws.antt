@@ -1,6 +1,6 @@
 -- The scan case by case: what each byte does, and how far a step goes on in the lines.
 -- Assumes nothing.
-use Prim.Native.Nat.{ℕ, zero, suc, _+_, _≤_, _<_}
+use Prim.Native.Nat.{ℕ, _+_, _≤_, _<_}
 use native.Mathlib.Omega.{arith}
 use mathlib.Core.Path.{_≡_, refl, sym, ap, subst, _∙_}
 use mathlib.Core.Bool.{Bool, true, false, cond}
@@ -8,13 +8,13 @@ use mathlib.Core.List.{List}
 use mathlib.Core.Option.{Option, none, some}
 use borrow.Author.Tests.{leb-false, le-leb, lt-leb}
 use lib.Dec.{leb, eqb}
-use lib.ListN.{length, drop, getD, drop-of-length-le, List·getD-eq-default}
-use Rattle.terms.specs.Limits.{priceLimit, partsLimit, demandLimit}
+use lib.ListN.{length, drop, getD, drop-of-length-le}
 use Rattle.encoding.specs.StoreLaws.{drop-next}
+use Rattle.typed_figures.specs.Decimal.{isDigit, pushed}
+use Rattle.typed_figures.specs.Figures.{tariffFigures, limitOf, figuresLimit, factorStands}
 use Rattle.order_text.specs.declared.faults.Cause.the-variants.{Byte, Factor, Many, Few}
 use Rattle.order_text.specs.declared.faults.Fault.{Fault}
-use Rattle.order_text.specs.Decimal.{isDigit, pushed}
-use Rattle.order_text.specs.Text.{Reading, read, faulty, onRead, thenRead, tariffLimits, tariffFigures, limitOf, figuresLimit, factorStands, Scan, started, faultAt, newline, endsFigure, passed, withValue, unlessAbove, withDigit, withFigure, closed, afterByte, scanned, enough, figuresOf}
+use Rattle.order_text.specs.Text.{Reading, read, faulty, onRead, thenRead, Scan, started, faultAt, newline, endsFigure, passed, withValue, unlessAbove, withDigit, withFigure, closed, afterByte, scanned, enough, figuresOf}
 
 -- ---- What is read, or a fault
 
@@ -32,24 +32,6 @@ on-read f (faulty x) e = absurd (read-faulty (sym e))
 pub then-read : {A B : Type 0} (a : Reading A) (next : A → Reading B) {y : B} → thenRead a next ≡ read y → (x : A) × (a ≡ read x) × (next x ≡ read y)
 then-read (read x) next e = (x, refl, e)
 then-read (faulty x) next e = absurd (read-faulty (sym e))
-
--- ---- The limits
-
-pub limit-price : (i : ℕ) → i < 2 → priceLimit ≡ limitOf i
-limit-price zero l = refl
-limit-price (suc zero) l = refl
-limit-price (suc (suc i)) l = absurd (omega arith)
-
-pub limit-parts : (i : ℕ) → 3 ≤ i → i < 5 → partsLimit ≡ limitOf i
-limit-parts zero k l = absurd (omega arith)
-limit-parts (suc zero) k l = absurd (omega arith)
-limit-parts (suc (suc zero)) k l = absurd (omega arith)
-limit-parts (suc (suc (suc zero))) k l = refl
-limit-parts (suc (suc (suc (suc zero)))) k l = refl
-limit-parts (suc (suc (suc (suc (suc i))))) k l = absurd (omega arith)
-
-pub limit-demand : (i : ℕ) → 7 ≤ i → demandLimit ≡ limitOf i
-limit-demand i l = sym (List·getD-eq-default tariffLimits demandLimit {n = i} l)
 
 -- ---- One byte
 

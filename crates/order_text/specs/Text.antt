@@ -5,22 +5,20 @@ use mathlib.Core.Bool.{Bool, true, false, cond, not, _&&_, _||_}
 use mathlib.Core.List.{List, [], _∷_, _++_}
 use mathlib.Core.Option.{Option, none, some}
 use lib.Dec.{leb, eqb}
-use lib.ListN.{length, drop, getD}
-use Rattle.terms.specs.declared.Tariff.{Tariff}
+use lib.ListN.{length, getD}
 use Rattle.terms.specs.Answer.{Answer, figures, refused}
 use Rattle.terms.specs.Lent.{filled}
-use Rattle.terms.specs.Limits.{demandLimit, depthLimit, feeLimit, partsLimit, priceLimit, rateLimit, traceLimit}
-use Rattle.terms.specs.Ranges.{factorOk}
 use Rattle.terms.specs.Refusals.{numberOf}
 use Rattle.encoding.specs.Number.{bytesOfAll}
 use Rattle.order_file.specs.Order.{writeOrder}
 use Rattle.text.specs.Numeral.{numeral, ended}
+use Rattle.typed_figures.specs.Decimal.{isDigit, pushed}
+use Rattle.typed_figures.specs.Figures.{demandsOf, factorStands, figuresLimit, limitOf, tariffFigures, tariffOf}
 use Rattle.order_text.specs.declared.faults.Cause.{Cause}
 use Rattle.order_text.specs.declared.faults.Cause.the-variants.{Byte, Above, Factor, Many, Few}
 use Rattle.order_text.specs.declared.faults.Fault.{Fault}
 use Rattle.order_text.specs.declared.orders.TextAnswer.{TextAnswer}
 use Rattle.order_text.specs.declared.orders.TextAnswer.the-variants.{Written, Faulty, Refused}
-use Rattle.order_text.specs.Decimal.{isDigit, pushed}
 
 -- What a text gives, or its first fault.
 pub data Reading (A : Type 0) : Type 0 where
@@ -36,23 +34,6 @@ onRead f (faulty x) = faulty x
 abbrev pub thenRead : {A B : Type 0} → Reading A → (A → Reading B) → Reading B
 thenRead (read x) next = next x
 thenRead (faulty x) next = faulty x
-
--- ---- The figures
-
--- The most that each figure of the tariff may be, in document 01's order; p is further held to q.
-abbrev pub tariffLimits : List ℕ
-tariffLimits = priceLimit ∷ priceLimit ∷ feeLimit ∷ partsLimit ∷ partsLimit ∷ rateLimit ∷ depthLimit ∷ []
-
-abbrev pub tariffFigures : ℕ
-tariffFigures = 7
-
--- The demands come after the tariff.
-abbrev pub limitOf : ℕ → ℕ
-limitOf index = getD tariffLimits index demandLimit
-
--- The figures of an order at the most.
-abbrev pub figuresLimit : ℕ
-figuresLimit = tariffFigures + traceLimit
 
 -- ---- The scan
 
@@ -114,10 +95,6 @@ withDigit s b =
 abbrev pub withFigure : Scan → Scan
 withFigure s = record { line = s .line; comment = s .comment; begun = false; value = 0; figures = s .figures ++ s .value ∷ [] }
 
--- Figure 4 is q, and figure 3 before it p.
-abbrev pub factorStands : ℕ → ℕ → ℕ → Bool
-factorStands index p q = not (eqb index 4) || factorOk (record { p = p; q = q })
-
 -- The figure that is begun, if one is, ends.
 abbrev pub closed : Scan → Reading Scan
 closed s =
@@ -150,22 +127,6 @@ abbrev pub plainText : List ℕ → List ℕ
 plainText ns = bytesOfAll (λ n. ended (numeral n) newline) ns
 
 -- ---- The order
-
--- The tariff of the first seven figures.
-abbrev pub tariffOf : List ℕ → Tariff
-tariffOf ns =
-    record {
-      «rate_price» = record { 0 = getD ns 0 0 };
-      «depth_price» = record { 0 = getD ns 1 0 };
-      fee = getD ns 2 0;
-      factor = record { p = getD ns 3 0; q = getD ns 4 0 };
-      «rate_cap» = record { 0 = getD ns 5 0 };
-      «depth_cap» = record { 0 = getD ns 6 0 };
-    }
-
--- The demands behind them.
-abbrev pub demandsOf : List ℕ → List ℕ
-demandsOf ns = drop tariffFigures ns
 
 -- The order file of figures, for lent bytes of this room.
 abbrev pub writeFigures : ℕ → List ℕ → Answer (List ℕ)

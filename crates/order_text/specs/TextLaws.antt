@@ -18,8 +18,9 @@ use Rattle.encoding.specs.StoreLaws.{sets-front}
 use Rattle.order_file.specs.Order.{orderLength, writeOrder}
 use Rattle.order_file.specs.OrderLaws.{ReadsBack, write-read}
 use Rattle.order_file.specs.OrderRules.{length-order}
+use Rattle.typed_figures.specs.Figures.{tariffOf, demandsOf}
 use Rattle.order_text.specs.declared.faults.Fault.{Fault}
-use Rattle.order_text.specs.Text.{Reading, read, faulty, onRead, figuresOf, tariffOf, demandsOf, writeFigures, fileOf, filledBy}
+use Rattle.order_text.specs.Text.{Reading, read, faulty, onRead, figuresOf, writeFigures, fileOf, filledBy}
 use Rattle.order_text.specs.ScanLaws.{on-read}
 use Rattle.order_text.specs.FigureLaws.{Figures, text-figures, demands-fit, figures-written, figures-short}
 

@@ -2,16 +2,11 @@
 // and written as an order file. Spaces, tabs, carriage returns and newlines stand between figures; a
 // # opens a comment that runs to the end of its line. A fault says its line, its figure and its
 // cause, and changes nothing that is lent.
-mod digits;
 mod faults;
-mod figures;
 mod orders;
 mod scan;
 
-pub use digits::NumberAnswer;
-pub use digits::number_of;
 pub use faults::Cause;
 pub use faults::Fault;
-pub use figures::limit_of;
 pub use orders::TextAnswer;
 pub use orders::order_of_text;

@@ -1,14 +1,14 @@
 // An order typed as text, written as an order file.
 use crate::faults::Fault;
-use crate::figures::FIGURES_LIMIT;
-use crate::figures::TARIFF_FIGURES;
-use crate::figures::tariff_of;
 use crate::scan::Step;
 use crate::scan::read_figures;
 use encoding::FillAnswer;
 use order_file::write_order;
 use terms::Refusal;
 use terms::limits::TRACE_LIMIT;
+use typed_figures::figures::FIGURES_LIMIT;
+use typed_figures::figures::TARIFF_FIGURES;
+use typed_figures::figures::tariff_of;
 ghost use Prim.Native.Nat.{_≤_};
 ghost use mathlib.Core.Path.{_≡_};
 ghost use lib.ListN.{length};

@@ -1,21 +1,22 @@
 // The scan of a text, byte by byte. A cursor says where it has come to; the figures read so far lie
 // at the front of a list that is lent.
-use crate::digits::Push;
-use crate::digits::is_digit;
-use crate::digits::push_digit;
 use crate::faults::Cause;
 use crate::faults::Fault;
-use crate::figures::FIGURES_LIMIT;
-use crate::figures::P_INDEX;
-use crate::figures::TARIFF_FIGURES;
-use crate::figures::factor_stands;
-use crate::figures::limit_of;
+use typed_figures::digits::Push;
+use typed_figures::digits::is_digit;
+use typed_figures::digits::push_digit;
+use typed_figures::figures::FIGURES_LIMIT;
+use typed_figures::figures::P_INDEX;
+use typed_figures::figures::TARIFF_FIGURES;
+use typed_figures::figures::factor_stands;
+use typed_figures::limit_of;
 ghost use Prim.Native.Nat.{_<_};
 ghost use mathlib.Core.Path.{_≡_};
 ghost use mathlib.Core.Bool.{true};
 ghost use lib.ListN.{length};
-ghost use Rattle.order_text.specs.Decimal.{isDigit};
-ghost use Rattle.order_text.specs.Text.{afterByte, closed, endsFigure, faultAt, faulty, figuresLimit, figuresOf, onRead, scanned, started, withDigit};
+ghost use Rattle.typed_figures.specs.Decimal.{isDigit};
+ghost use Rattle.typed_figures.specs.Figures.{figuresLimit};
+ghost use Rattle.order_text.specs.Text.{afterByte, closed, endsFigure, faultAt, faulty, figuresOf, onRead, scanned, started, withDigit};
 ghost use Rattle.order_text.specs.Cursors.{Fits, Passes, StepFits, Steps, lineLimit, scanOf, stepSays};
 
 // Where the scan has come to.

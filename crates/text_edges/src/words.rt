@@ -1,6 +1,6 @@
 // Words as numbers.
-use order_text::NumberAnswer;
-use order_text::number_of;
+use typed_figures::NumberAnswer;
+use typed_figures::number_of;
 
 pub fn edges() {
     short();

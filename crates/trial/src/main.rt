@@ -6,12 +6,12 @@ use console::print;
 use console::put;
 use console::read_all;
 use libc::STDERR_FILENO;
-use order_text::NumberAnswer;
-use order_text::number_of;
 use services::trial_line;
 use terms::Bucket;
 use terms::Depth;
 use terms::Rate;
+use typed_figures::NumberAnswer;
+use typed_figures::number_of;
 
 fn main() {
     if !has_words(

@@ -7,7 +7,7 @@ use borrow.Rule.Slice.PartAt.{part-to-end}
 use lib.ListN.{length, length-drop}
 use lib.Seq.{length-take-le, sets}
 use Rattle.encoding.specs.NumberLaws.{Fit}
-use Rattle.order_text.specs.Text.{tariffFigures, demandsOf}
+use Rattle.typed_figures.specs.Figures.{tariffFigures, demandsOf}
 use Rattle.order_text.specs.FigureLaws.{demands-fit}
 use Rattle.order_text.specs.TextLaws.{copied-front, order-written}
 use Rattle.order_text.proofs.orders.write_figures.Statement.{statement}

@@ -3,8 +3,9 @@ use native.Mathlib.Omega.{arith}
 use mathlib.Core.Path.{_≡_, sym, ap, subst, _∙_}
 use borrow.Author.Needs.{needs}
 use lib.ListN.{length}
+use Rattle.typed_figures.specs.Figures.{figuresLimit}
 use Rattle.order_text.specs.declared.scan.Step.{Step}
-use Rattle.order_text.specs.Text.{figuresLimit, started, scanned, enough, onRead, thenRead, figuresOf}
+use Rattle.order_text.specs.Text.{started, scanned, enough, onRead, thenRead, figuresOf}
 use Rattle.order_text.specs.ScanLaws.{text-scanned, text-closed, enough-few, enough-all}
 use Rattle.order_text.specs.Cursors.{Fits, StepFits, scanOf, stepSays}
 use Rattle.order_text.specs.CursorLaws.{count-is}

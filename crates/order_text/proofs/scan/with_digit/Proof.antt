@@ -3,8 +3,8 @@ use Prim.Native.Nat.{ℕ}
 use native.Mathlib.Omega.{arith}
 use mathlib.Core.Path.{_≡_, sym, ap, _∙_}
 use borrow.Author.Needs.{needs}
-use Rattle.order_text.specs.Decimal.{pushed, pushSays}
-use Rattle.order_text.specs.Text.{limitOf}
+use Rattle.typed_figures.specs.Decimal.{pushed, pushSays}
+use Rattle.typed_figures.specs.Figures.{limitOf}
 use Rattle.order_text.specs.CursorLaws.{many-steps, above-steps, digit-steps}
 use Rattle.order_text.proofs.scan.with_digit.Statement.{statement}
 use Rattle.order_text.proofs.scan.with_digit.Tie as tie

@@ -15,7 +15,7 @@ use Rattle.terms.specs.Records.{Each}
 use Rattle.encoding.specs.StoreLaws.{drop-next}
 use Rattle.text.specs.Numeral.{digit, numeralIn, numeral}
 use Rattle.text.specs.NumeralLaws.{by-digits, numeral-small, numeral-large}
-use Rattle.order_text.specs.Decimal.{isDigit, pushed, numberLimit, numberFrom, numberIn}
+use Rattle.typed_figures.specs.Decimal.{isDigit, pushed, numberLimit, numberFrom, numberIn}
 
 pub record DigitRange (b : ℕ) : Type 0 where
   pub from : 48 ≤ b

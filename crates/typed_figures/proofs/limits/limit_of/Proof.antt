@@ -1,9 +1,9 @@
 -- Each arm is a row of the table of limits; past the table stand the demands.
 use native.Mathlib.Omega.{arith}
 use borrow.Author.Needs.{needs}
-use Rattle.order_text.specs.ScanLaws.{limit-price, limit-parts, limit-demand}
-use Rattle.order_text.proofs.figures.limit_of.Statement.{statement}
-use Rattle.order_text.proofs.figures.limit_of.Tie as tie
+use Rattle.typed_figures.specs.LimitLaws.{limit-price, limit-parts, limit-demand}
+use Rattle.typed_figures.proofs.limits.limit_of.Statement.{statement}
+use Rattle.typed_figures.proofs.limits.limit_of.Tie as tie
 
 cast-result : tie.Need-cast-result
 cast-result c = search needs

@@ -5,10 +5,10 @@ use mathlib.Core.Path.{_≡_, sym, ap, _∙_}
 use borrow.Author.Needs.{needs}
 use lib.ListN.{length, drop}
 use Rattle.terms.specs.Bools.{check-passed, check-failed}
-use Rattle.order_text.specs.Decimal.{numberFrom, numberIn, pushSays}
-use Rattle.order_text.specs.DecimalLaws.{number-begin, number-empty, number-end, number-other, number-above, number-next}
-use Rattle.order_text.proofs.digits.number_of.Statement.{statement}
-use Rattle.order_text.proofs.digits.number_of.Tie as tie
+use Rattle.typed_figures.specs.Decimal.{numberFrom, numberIn, pushSays}
+use Rattle.typed_figures.specs.DecimalLaws.{number-begin, number-empty, number-end, number-other, number-above, number-next}
+use Rattle.typed_figures.proofs.words.number_of.Statement.{statement}
+use Rattle.typed_figures.proofs.words.number_of.Tie as tie
 
 abbrev Inv-loop : tie.InvT-loop
 Inv-loop word value₀ i₀ value i = numberFrom value (drop i word) ≡ numberIn word

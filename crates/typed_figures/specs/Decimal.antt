@@ -5,10 +5,10 @@ use mathlib.Core.Bool.{Bool, cond, _&&_}
 use mathlib.Core.List.{List, [], _∷_}
 use mathlib.Core.Option.{Option, none, some, bind}
 use lib.Dec.{leb}
-use Rattle.order_text.specs.declared.digits.NumberAnswer.{NumberAnswer}
-use Rattle.order_text.specs.declared.digits.NumberAnswer.the-variants.{Number, NoNumber}
-use Rattle.order_text.specs.declared.digits.Push.{Push}
-use Rattle.order_text.specs.declared.digits.Push.the-variants.{Value, Above}
+use Rattle.typed_figures.specs.declared.words.NumberAnswer.{NumberAnswer}
+use Rattle.typed_figures.specs.declared.words.NumberAnswer.the-variants.{Number, NoNumber}
+use Rattle.typed_figures.specs.declared.digits.Push.{Push}
+use Rattle.typed_figures.specs.declared.digits.Push.the-variants.{Value, Above}
 
 -- the bytes `0` to `9`
 abbrev pub isDigit : ℕ → Bool

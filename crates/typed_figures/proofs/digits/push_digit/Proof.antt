@@ -2,9 +2,9 @@
 use native.Mathlib.Omega.{arith}
 use mathlib.Core.Path.{sym}
 use borrow.Author.Needs.{needs}
-use Rattle.order_text.specs.DecimalLaws.{digit-range, push-above, push-within}
-use Rattle.order_text.proofs.digits.push_digit.Statement.{statement}
-use Rattle.order_text.proofs.digits.push_digit.Tie as tie
+use Rattle.typed_figures.specs.DecimalLaws.{digit-range, push-above, push-within}
+use Rattle.typed_figures.proofs.digits.push_digit.Statement.{statement}
+use Rattle.typed_figures.proofs.digits.push_digit.Tie as tie
 
 mul-next : tie.Need-mul-next
 mul-next c = search needs

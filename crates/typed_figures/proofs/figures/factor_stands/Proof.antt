@@ -3,8 +3,8 @@ use mathlib.Core.Path.{ap}
 use mathlib.Core.Bool.{Bool, not, _||_}
 use borrow.Author.Needs.{needs}
 use lib.Dec.{eqb}
-use Rattle.order_text.proofs.figures.factor_stands.Statement.{statement}
-use Rattle.order_text.proofs.figures.factor_stands.Tie as tie
+use Rattle.typed_figures.proofs.figures.factor_stands.Statement.{statement}
+use Rattle.typed_figures.proofs.figures.factor_stands.Tie as tie
 
 factor-in-range-requires : tie.Need-factor-in-range-requires
 factor-in-range-requires c κs = search needs
