@@ -21,7 +21,7 @@ def fits(proof):
 class Loop:
     """A description gives `lists`: what the context holds of each list on entry, a pair where its borrow is to be
     opened; `TEST`, the local of the loop's condition; `LEFT`, what the context holds after the loop; `walks`, which sets
-    `invariant` and gives the `parts`; and the walks `turn`, `leaves`, `exits` and `opened`."""
+    `invariant` and gives the `parts`; and the walks `turn`, `closed` (the borrows after the loop), `exits` and `opened`."""
 
     lists = ()
 
@@ -114,11 +114,23 @@ class Loop:
         w.emit('closes-slice ! tt %s %s (%s) %s b%s o%s $' % (row, old, now, long, sub(j), sub(j)))
         w.head(4, 'obs%d' % j, 'bor%d' % j, 't%d' % j)
 
-    def returns(self, w, left):
+    def leaves(self, w):
+        """From the test that fails to the function's end."""
+        w.emit('exec ! C Λ En mir.t-3 (atRet En Post) $')
+        self.closed(w)
         w.copy(0, '(unit-lit !)', TRIVIAL)
         w.ret()
-        w.keep(*left)
+        w.keep(*self.LEFT)
         return w.text('by ! exits')
+
+    def leaving(self):
+        """What is left after the loop, the tokens framed."""
+        w = self.walk(self.LEFT)
+        w.nil()
+        w.joins(['t%d' % j for j in LISTS] + ['nil'], 'join', 'toks')
+        w.emit('frame ! $')
+        w.head(1)
+        return w
 
     def slice_back(self, w, j, row, value, parts, known):
         """The parts of a list are its slice again."""

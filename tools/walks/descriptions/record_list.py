@@ -105,17 +105,11 @@ class StoreRecords(Loop):
         w.head(3, 'row0')
         w.emit('rewrite ! 0 (λ (l : List BucketRecord). ‵ (row T.the-row fullShare l b₀ o₀)) (stored less) refl $')
 
-    def leaves(self, w):
-        w.emit('exec ! C Λ En mir.t-3 (atRet En Post) $')
+    def closed(self, w):
         self.closes(w, 0, 'T.the-row', 'ys', 'front k zs ys', 'long', 'row T.the-row fullShare (front j zs ys) b₀ o₀')
-        return self.returns(w, self.LEFT)
 
     def exits(self):
-        w = self.walk(self.LEFT)
-        w.nil()
-        w.joins(['t0', 't1', 't2', 't3', 'nil'], 'join', 'toks')
-        w.emit('frame ! $')
-        w.head(1)
+        w = self.leaving()
         known = self.changed(0, 'T.the-row', 'long')
         self.slice_back(w, 0, 'T.the-row', '(x₀ (front k zs ys))', ['obs0', 'bor0'], known)
         w.head(2, 'L')
@@ -198,22 +192,16 @@ class LoadRecords(Loop):
         w.emit('rewrite ! 0 (λ (l : List ℕ). ‵ (row u32 fullShare l b{0} o{0})) (next-map {1} (i .0) ys {2} '
                'noRecord (in₀ less) (lt-of-lt-of-le (ltb→lt (i .0) k less) le{0})) refl $'.format(i, figure, name))
 
-    def leaves(self, w):
-        w.emit('exec ! C Λ En mir.t-3 (atRet En Post) $')
+    def closed(self, w):
         for j in NUMBERS:
             long = '(long%s k (omega arith))' % sub(j)
             self.closes(w, j, 'u32', FIGURES[j][0], self.now(j, 'k'), long, self.row(j, 'j'))
         w.move('row0', 'obor0')
         w.emit('shuts-slice ! tt T.the-row p₀ ys b₀ o₀ $')
         w.head(2, 't0')
-        return self.returns(w, self.LEFT)
 
     def exits(self):
-        w = self.walk(self.LEFT)
-        w.nil()
-        w.joins(['t0', 't1', 't2', 't3', 'nil'], 'join', 'toks')
-        w.emit('frame ! $')
-        w.head(1)
+        w = self.leaving()
         w.emit('nothing ! $ %s fjoin ! $' % COUNT_OWNED)
         w.head(0, 'has')
         for j in reversed(NUMBERS):
