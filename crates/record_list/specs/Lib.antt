@@ -2,3 +2,4 @@
 pub mod Lists
 pub mod ListLaws
 pub mod FrontLaws
+pub mod PartLaws

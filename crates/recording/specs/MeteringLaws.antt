@@ -16,9 +16,8 @@ use Rattle.terms.specs.Refusals.{numberOf}
 use Rattle.meter.specs.declared.meters.Meter.{Meter}
 use Rattle.meter.specs.Meter.{meterRun}
 use Rattle.meter.specs.MeterLaws.{Sound}
-use Rattle.encoding.specs.Number.{itemsAt}
-use Rattle.encoding.specs.StoreLaws.{items-next, items-none}
 use Rattle.record_list.specs.Lists.{listed, recordsOf}
+use Rattle.record_list.specs.PartLaws.{Begins, first-begins, next-begins, rest, rest-all, rest-next, rest-none}
 use Rattle.recording.specs.declared.metering.MeterTotals.{MeterTotals}
 use Rattle.recording.specs.declared.metering.TotalsAnswer.{TotalsAnswer}
 use Rattle.recording.specs.declared.metering.TotalsAnswer.the-variants.{Metered, Refused}
@@ -75,9 +74,8 @@ completed-more t m (figures ms) = ap figures (plus-more t m ms)
 completed-more t m (refused n) = refl
 
 module _ (f : Factor) (ds runs rates depths : List ℕ) (k : ℕ) where
-  -- the records from the i-th on
-  abbrev rest : ℕ → Cutting
-  rest i = itemsAt (listed runs rates depths) 1 (k - i) i
+  abbrev left : ℕ → Cutting
+  left = rest runs rates depths k
 
   abbrev whole : Answer MeterTotals
   whole = onFigures totalsOf (metersOf f ds (recordsOf k runs rates depths))
@@ -85,16 +83,15 @@ module _ (f : Factor) (ds runs rates depths : List ℕ) (k : ℕ) where
   -- i runs are metered, and the next begins at `start`.
   pub record Metering (t : MeterTotals) (start i : ℕ) : Type 0 where
     pub few : Few i t
-    pub ends : start + total runLength (rest i) ≡ length ds
-    pub is : completed t (metersOf f (drop start ds) (rest i)) ≡ whole
+    pub begins : Begins runs rates depths k ds start i
+    pub is : completed t (metersOf f (drop start ds) (left i)) ≡ whole
 
   pub none-metered : total runLength (recordsOf k runs rates depths) ≡ length ds → Metering none 0 0
   none-metered e =
-      let z : k - 0 ≡ k = omega arith in
       record {
         few = record { sents = omega arith; overs = omega arith; losts = omega arith; helds = omega arith };
-        ends = zero-add _ ∙ ap (λ (n : ℕ). total runLength (itemsAt (listed runs rates depths) 1 n 0)) z ∙ e;
-        is = ap (λ (n : ℕ). completed none (metersOf f ds (itemsAt (listed runs rates depths) 1 n 0))) z ∙ completed-none (metersOf f ds (recordsOf k runs rates depths));
+        begins = first-begins runs rates depths k ds e;
+        is = ap (λ (xs : Cutting). completed none (metersOf f ds xs)) (rest-all runs rates depths k) ∙ completed-none (metersOf f ds (recordsOf k runs rates depths));
       }
 
   module _ {t : MeterTotals} {start i : ℕ} (s : Metering t start i) where
@@ -102,24 +99,18 @@ module _ (f : Factor) (ds runs rates depths : List ℕ) (k : ℕ) where
       abbrev this : BucketRecord
       this = listed runs rates depths i
 
-      -- the next run is inside the trace
-      pub run-inside : start + runLength this ≤ length ds
-      unfolding total
-      run-inside = omega (arith, s .ends, ap (total runLength) (items-next (listed runs rates depths) 1 k i i l))
-
       abbrev onward : Answer Meter → Answer MeterTotals
-      onward a = completed t (andThen a (λ m. onFigures (m ∷_) (metersOf f (drop (runLength this) (drop start ds)) (rest (i + 1)))))
+      onward a = completed t (andThen a (λ m. onFigures (m ∷_) (metersOf f (drop (runLength this) (drop start ds)) (left (i + 1)))))
 
       next : whole ≡ onward (meterRun (this .bucket) f (take (runLength this) (drop start ds)))
       unfolding metersOf
-      next = sym (s .is) ∙ ap (λ (xs : Cutting). completed t (metersOf f (drop start ds) xs)) (items-next (listed runs rates depths) 1 k i i l)
+      next = sym (s .is) ∙ ap (λ (xs : Cutting). completed t (metersOf f (drop start ds) xs)) (rest-next runs rates depths k i l)
 
       module _ (a : Answer Meter) (e : a ≡ meterRun (this .bucket) f (take (runLength this) (drop start ds))) where
         pub run-refused : (n : ℕ) → a ≡ refused n → refused n ≡ whole
         run-refused n g = sym (next ∙ ap onward (sym e ∙ g))
 
         metered-next : (m : Meter) → a ≡ figures m → Sound m → Metering (added t m) (start + runLength this) (i + 1)
-        unfolding total
         metered-next m g o =
             record {
               few = record {
@@ -128,10 +119,10 @@ module _ (f : Factor) (ds runs rates depths : List ℕ) (k : ℕ) where
                 losts = omega (arith, s .few .losts, o .counts .losts);
                 helds = omega (arith, s .few .helds, o .counts .holds, o .fresh .bucket .depths);
               };
-              ends = omega (arith, s .ends, ap (total runLength) (items-next (listed runs rates depths) 1 k i i l));
+              begins = next-begins runs rates depths k ds start i (s .begins) l;
               is =
-                  ap (λ (ys : List ℕ). completed (added t m) (metersOf f ys (rest (i + 1)))) (sym (drop-drop (runLength this) start ds))
-                  ∙ sym (completed-more t m (metersOf f (drop (runLength this) (drop start ds)) (rest (i + 1))))
+                  ap (λ (ys : List ℕ). completed (added t m) (metersOf f ys (left (i + 1)))) (sym (drop-drop (runLength this) start ds))
+                  ∙ sym (completed-more t m (metersOf f (drop (runLength this) (drop start ds)) (left (i + 1))))
                   ∙ sym (next ∙ ap onward (sym e ∙ g));
             }
 
@@ -142,5 +133,5 @@ module _ (f : Factor) (ds runs rates depths : List ℕ) (k : ℕ) where
     unfolding metersOf
     all-metered l =
         ap figures (sym (plus-none t))
-        ∙ ap (λ (xs : Cutting). completed t (metersOf f (drop start ds) xs)) (sym (items-none (listed runs rates depths) 1 k i i l))
+        ∙ ap (λ (xs : Cutting). completed t (metersOf f (drop start ds) xs)) (sym (rest-none runs rates depths k i l))
         ∙ s .is

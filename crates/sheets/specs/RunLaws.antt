@@ -2,7 +2,6 @@
 -- Assumes nothing.
 use Prim.Native.Nat.{ℕ, _+_, _-_, _≤_, _<_}
 use native.Mathlib.Omega.{arith}
-use native.Mathlib.Nat.{zero-add}
 use mathlib.Core.Path.{_≡_, refl, sym, ap, subst, _∙_}
 use mathlib.Core.List.{List, [], _∷_, _++_, append-nil, append-assoc}
 use lib.ListN.{length, take, drop, length-take, length-drop}
@@ -15,9 +14,8 @@ use Rattle.terms.specs.Limits.{traceLimit}
 use Rattle.terms.specs.RangeLaws.{FactorRange, FreshRange, RecordRange, PeriodsRange, fresh-ok, periods-ok}
 use Rattle.terms.specs.Records.{Cutting, Each, runLength, total}
 use Rattle.bucket.specs.Trial.{trialFigures, trialOf}
-use Rattle.encoding.specs.Number.{itemsAt}
-use Rattle.encoding.specs.StoreLaws.{items-next, items-none}
 use Rattle.record_list.specs.Lists.{listed, recordsOf}
+use Rattle.record_list.specs.PartLaws.{Begins, first-begins, next-begins, rest, rest-all, rest-next, rest-none, run-inside}
 use Rattle.text.specs.PutLaws.{Puts, Room, room-front, room-next, puts-both}
 use Rattle.sheets.specs.Sheet.{runLine, runLines}
 
@@ -35,9 +33,8 @@ tried b f ds h k = rw (periods-ok (length ds) k, fresh-ok b f h)
 -- ---- The lines stored run by run
 
 module _ (f : Factor) (ds runs rates depths : List ℕ) (k : ℕ) (old : List ℕ) (at : ℕ) where
-  -- the records from the i-th on
-  abbrev rest : ℕ → Cutting
-  rest i = itemsAt (listed runs rates depths) 1 (k - i) i
+  abbrev left : ℕ → Cutting
+  left = rest runs rates depths k
 
   abbrev whole : List ℕ
   whole = runLines f 1 ds (recordsOf k runs rates depths)
@@ -46,19 +43,19 @@ module _ (f : Factor) (ds runs rates depths : List ℕ) (k : ℕ) (old : List �
   pub record Printing (new : List ℕ) (next start i : ℕ) : Type 0 where
     pub done : List ℕ
     pub put : Puts old at done new next
-    pub is : done ++ runLines f (start + 1) (drop start ds) (rest i) ≡ whole
-    pub ends : start + total runLength (rest i) ≡ length ds
-    pub each : Each RecordRange (rest i)
+    pub is : done ++ runLines f (start + 1) (drop start ds) (left i) ≡ whole
+    pub begins : Begins runs rates depths k ds start i
+    pub each : Each RecordRange (left i)
 
   pub none-printed : Printable f ds (recordsOf k runs rates depths) → Printing old at 0 0
   none-printed p =
-      let z : k ≡ k - 0 = omega arith in
+      let e = rest-all runs rates depths k in
       record {
         done = [];
         put = record { place = omega arith; stored = refl };
-        is = ap (λ (n : ℕ). runLines f 1 ds (itemsAt (listed runs rates depths) 1 n 0)) (sym z);
-        ends = ap (λ (n : ℕ). 0 + total runLength (itemsAt (listed runs rates depths) 1 n 0)) (sym z) ∙ zero-add _ ∙ p .sum;
-        each = subst (λ (n : ℕ). Each RecordRange (itemsAt (listed runs rates depths) 1 n 0)) z (p .each);
+        is = ap (runLines f 1 ds) e;
+        begins = first-begins runs rates depths k ds (p .sum);
+        each = subst (Each RecordRange) (sym e) (p .each);
       }
 
   module _ {new : List ℕ} {next start i : ℕ} (s : Printing new next start i) where
@@ -69,50 +66,48 @@ module _ (f : Factor) (ds runs rates depths : List ℕ) (k : ℕ) (old : List �
       abbrev part : List ℕ
       part = take (runLength this) (drop start ds)
 
-      rest-is : rest i ≡ this ∷ rest (i + 1)
-      rest-is = items-next (listed runs rates depths) 1 k i i l
+      left-is : left i ≡ this ∷ left (i + 1)
+      left-is = rest-next runs rates depths k i l
 
       -- the next run is inside the trace
-      pub run-inside : start + runLength this ≤ length ds
-      unfolding total
-      run-inside = omega (arith, s .ends, ap (total runLength) rest-is)
+      inside : start + runLength this ≤ length ds
+      inside = run-inside runs rates depths k ds start i (s .begins) l
 
       -- … and in its ranges
       run-range : RecordRange this
-      run-range = subst (Each RecordRange) rest-is (s .each) .0
+      run-range = subst (Each RecordRange) left-is (s .each) .0
 
       run-count : length part ≡ runLength this
-      run-count = omega (arith, run-inside, length-take (runLength this) (drop start ds), length-drop start ds)
+      run-count = omega (arith, inside, length-take (runLength this) (drop start ds), length-drop start ds)
 
       abbrev line : List ℕ
       line = runLine f (start + 1) (this .bucket) part
 
       abbrev after : List ℕ
-      after = runLines f (start + 1 + runLength this) (drop (runLength this) (drop start ds)) (rest (i + 1))
+      after = runLines f (start + 1 + runLength this) (drop (runLength this) (drop start ds)) (left (i + 1))
 
       next-is : s .done ++ line ++ after ≡ whole
       unfolding runLines
       next-is =
           append-assoc (s .done) line after
-          ∙ ap (λ (xs : Cutting). s .done ++ runLines f (start + 1) (drop start ds) xs) (sym rest-is)
+          ∙ ap (λ (xs : Cutting). s .done ++ runLines f (start + 1) (drop start ds) xs) (sym left-is)
           ∙ s .is
 
       line-room : Room old at whole → Room new next line
       line-room r = room-next (s .put) line (room-front old at (s .done ++ line) after (subst (Room old at) (sym next-is) r))
 
       line-printed : (new′ : List ℕ) (next′ : ℕ) → Puts new next line new′ next′ → Printing new′ next′ (start + runLength this) (i + 1)
-      unfolding total
       line-printed new′ next′ q =
           let e : start + runLength this + 1 ≡ start + 1 + runLength this = omega arith in
           record {
             done = s .done ++ line;
             put = puts-both (s .put) line new′ next′ q;
             is =
-                ap (λ (n : ℕ). s .done ++ line ++ runLines f n (drop (start + runLength this) ds) (rest (i + 1))) e
-                ∙ ap (λ (ys : List ℕ). s .done ++ line ++ runLines f (start + 1 + runLength this) ys (rest (i + 1))) (sym (drop-drop (runLength this) start ds))
+                ap (λ (n : ℕ). s .done ++ line ++ runLines f n (drop (start + runLength this) ds) (left (i + 1))) e
+                ∙ ap (λ (ys : List ℕ). s .done ++ line ++ runLines f (start + 1 + runLength this) ys (left (i + 1))) (sym (drop-drop (runLength this) start ds))
                 ∙ next-is;
-            ends = omega (arith, s .ends, ap (total runLength) rest-is);
-            each = subst (Each RecordRange) rest-is (s .each) .1;
+            begins = next-begins runs rates depths k ds start i (s .begins) l;
+            each = subst (Each RecordRange) left-is (s .each) .1;
           }
 
       -- the run's own part of the trace
@@ -123,8 +118,8 @@ module _ (f : Factor) (ds runs rates depths : List ℕ) (k : ℕ) (old : List �
             let n : length ys ≡ runLength this = ap length e ∙ run-count in (
               record { bucket = run-range .bucket; factor = p .factor },
               (
-                record { some = omega (arith, n, run-range .some); few = omega (arith, n, run-inside, p .few) },
-                (omega (arith, run-inside, run-range .some, p .few), subst (λ (zs : List ℕ). Room new next (runLine f (start + 1) (this .bucket) zs)) (sym e) (line-room r)),
+                record { some = omega (arith, n, run-range .some); few = omega (arith, n, inside, p .few) },
+                (omega (arith, inside, run-range .some, p .few), subst (λ (zs : List ℕ). Room new next (runLine f (start + 1) (this .bucket) zs)) (sym e) (line-room r)),
               ),
             )
 
@@ -134,6 +129,6 @@ module _ (f : Factor) (ds runs rates depths : List ℕ) (k : ℕ) (old : List �
     pub all-printed : k ≤ i → Puts old at whole new next
     unfolding runLines
     all-printed l =
-        let e = items-none (listed runs rates depths) 1 k i i l in
+        let e = rest-none runs rates depths k i l in
         subst (λ (xs : List ℕ). Puts old at xs new next)
         (sym (append-nil (s .done)) ∙ ap (λ (xs : Cutting). s .done ++ runLines f (start + 1) (drop start ds) xs) (sym e) ∙ s .is) (s .put)

@@ -1,11 +1,9 @@
 -- What is left to meter completes the totals so far; the next run is inside the trace, since the run lengths sum to its length.
-use Prim.Native.Nat.{ℕ, _+_, _-_, _≤_}
+use Prim.Native.Nat.{_+_, _-_, _≤_}
 use native.Mathlib.Omega.{arith}
 use mathlib.Core.Path.{_≡_, sym, ap, _∙_}
-use mathlib.Core.List.{List}
 use lib.ListN.{length, take, drop, getD, length-take, length-drop}
 use Rattle.terms.specs.Answer.{figures}
-use Rattle.record_list.specs.ListLaws.{Rooms, rooms}
 use Rattle.bucket.specs.Laws.{demands-take, demands-drop}
 use Rattle.bucket.specs.Trace.{Demands}
 use Rattle.meter.specs.declared.meters.Meter.{Meter}
@@ -13,7 +11,9 @@ use Rattle.meter.specs.Meter.{meterRun, openSays}
 use Rattle.meter.specs.MeterLaws.{Sound}
 use Rattle.meter.specs.MeterRuns.{metered-sound}
 use Rattle.record_list.specs.Lists.{listed}
-use Rattle.recording.specs.MeteringLaws.{Metering, none-metered, one-metered, all-metered, run-inside, run-refused}
+use Rattle.record_list.specs.ListLaws.{Rooms, rooms}
+use Rattle.record_list.specs.PartLaws.{part-is, run-inside}
+use Rattle.recording.specs.MeteringLaws.{Metering, none-metered, one-metered, all-metered, run-refused}
 use borrow.Author.Needs.{needs}
 use Rattle.recording.proofs.metering.meter_runs.Statement.{statement}
 use Rattle.recording.proofs.metering.meter_runs.Tie as tie
@@ -33,13 +33,13 @@ room s = rooms _ _ _ _ (s .pre .0)
 -- the run's part of the trace
 inside : (c : tie.In-loop Inv-loop μ-loop) → let l = c .before in
     l .loop .start + getD (start-of l .args .runs .now) (l .loop .i) 0 ≤ length (start-of l .args .trace .now)
-inside c = run-inside _ _ _ _ _ _ (c .before .loop .inv) (c .loop-test .taken)
+inside c =
+    let l = c .before in
+    let s = start-of l .args in
+    run-inside (s .runs .now) (s .rates .now) (s .depths .now) (s .buckets) (s .trace .now) (l .loop .start) (l .loop .i) (l .loop .inv .begins) (c .loop-test .taken)
 
 abbrev entered : tie.After-meter-run Inv-loop μ-loop → tie.In-loop Inv-loop μ-loop
 entered c = c .before .before .before .before .before
-
-part-is : (ds : List ℕ) (start n : ℕ) → take (start + n - start) (drop start ds) ≡ take n (drop start ds)
-part-is ds start n = let e : start + n - start ≡ n = omega arith in ap (λ (k : ℕ). take k (drop start ds)) e
 
 ran : (c : tie.After-meter-run Inv-loop μ-loop) → let l = entered c .before in let s = start-of l .args in
     let x = listed (s .runs .now) (s .rates .now) (s .depths .now) (l .loop .i) in

@@ -1,13 +1,12 @@
 -- The lines stored and those of the runs still to come are the whole; the next run is inside the trace, since the run lengths sum to its length.
-use Prim.Native.Nat.{ℕ, _+_, _-_, _≤_}
+use Prim.Native.Nat.{_+_, _-_, _≤_}
 use native.Mathlib.Omega.{arith}
-use mathlib.Core.Path.{_≡_, ap}
-use mathlib.Core.List.{List}
 use borrow.Author.Needs.{needs}
-use lib.ListN.{length, take, drop, getD}
+use lib.ListN.{length, getD}
 use Rattle.record_list.specs.ListLaws.{Rooms, rooms}
+use Rattle.record_list.specs.PartLaws.{part-is, run-inside}
 use Rattle.text.specs.PutLaws.{same-room}
-use Rattle.sheets.specs.RunLaws.{Printing, none-printed, one-printed, all-printed, run-inside, run-ready}
+use Rattle.sheets.specs.RunLaws.{Printing, none-printed, one-printed, all-printed, run-ready}
 use Rattle.sheets.proofs.runs.put_runs.Statement.{statement}
 use Rattle.sheets.proofs.runs.put_runs.Tie as tie
 
@@ -26,10 +25,10 @@ room s = rooms _ _ _ _ (s .pre .0)
 -- the run's part of the trace
 inside : (c : tie.In-loop Inv-loop μ-loop) → let l = c .before in
     l .loop .start + getD (start-of l .args .runs .now) (l .loop .i) 0 ≤ length (start-of l .args .trace .now)
-inside c = run-inside _ _ _ _ _ _ _ _ (c .before .loop .inv) (c .loop-test .taken)
-
-part-is : (ds : List ℕ) (start n : ℕ) → take (start + n - start) (drop start ds) ≡ take n (drop start ds)
-part-is ds start n = let e : start + n - start ≡ n = omega arith in ap (λ (k : ℕ). take k (drop start ds)) e
+inside c =
+    let l = c .before in
+    let s = start-of l .args in
+    run-inside (s .runs .now) (s .rates .now) (s .depths .now) (s .buckets) (s .trace .now) (l .loop .start) (l .loop .i) (l .loop .inv .begins) (c .loop-test .taken)
 
 loop-holds : tie.Need-loop-holds Inv-loop μ-loop
 loop-holds c = none-printed _ _ _ _ _ _ _ _ (c .before .before .before .before .before .pre .1 .0)
