@@ -1,7 +1,7 @@
-// What a plan file holds beside its bucket records, and what reading one answers.
+// What a plan holds beside its bucket records, and what reading a plan file answers.
 use terms::Refusal;
 
-// What a plan holds beside its bucket records: T, the number of buckets and the cost.
+// T, the number of buckets and the cost.
 pub struct PlanFigures {
     pub periods: u32,
     pub buckets: u32,

@@ -7,7 +7,7 @@ use native.Mathlib.Numerals.{add-one}
 use mathlib.Core.Path.{_≡_, refl, sym, _∙_, ap, subst}
 use mathlib.Core.List.{List, [], _∷_, _++_, map}
 use lib.ListN.{length, getD, set, take, drop, length-map, List·getD-map}
-use lib.Seq.{take-length, length-take-le}
+use lib.Seq.{take-length, length-take-le, length-front as length-spliced}
 use Rattle.terms.specs.declared.BucketRecord.{BucketRecord}
 use Rattle.terms.specs.Answer.{figures}
 use Rattle.terms.specs.Lent.{filled}
@@ -30,10 +30,7 @@ module _ {A : Type 0} where
   next-front i xs ys d l m = suc-front i xs ys d l m ∙ ap (λ (j : ℕ). front j xs ys) (sym (add-one i))
 
   pub length-front : (i : ℕ) (xs ys : List A) → i ≤ length xs → i ≤ length ys → length (front i xs ys) ≡ length ys
-  length-front zero xs ys l m = refl
-  length-front (suc i) [] ys l m = absurd (not-suc-le-zero l)
-  length-front (suc i) (x ∷ xs) [] l m = absurd (not-suc-le-zero m)
-  length-front (suc i) (x ∷ xs) (y ∷ ys) l m = ap suc (length-front i xs ys (le-of-suc-le-suc l) (le-of-suc-le-suc m))
+  length-front i xs ys l m = length-spliced ys (take i xs) i (length-take-le i xs l ∙ sym (length-take-le i ys m))
 
   -- A list that all items of another fill.
   pub front-filled : (k : ℕ) (xs ys : List A) → length xs ≡ k → front k xs ys ≡ filled (figures xs) ys

@@ -4,8 +4,8 @@ use Prim.Native.Nat.{ℕ, _≤_}
 use native.Mathlib.Omega.{arith}
 use mathlib.Core.Path.{_≡_, sym, ap, _∙_}
 use mathlib.Core.List.{List}
-use lib.ListN.{length, take, drop, length-append, length-drop, length-take}
-use lib.Seq.{take-append-seam}
+use lib.ListN.{length, take, drop, length-take}
+use lib.Seq.{take-append-seam, length-front, length-take-le}
 use Rattle.terms.specs.Answer.{Answer, figures, onFigures}
 use Rattle.terms.specs.AnswerLaws.{on-figures}
 use Rattle.terms.specs.Lent.{filled}
@@ -16,7 +16,7 @@ filled-front xs old = take-append-seam xs (drop (length xs) old)
 
 -- A list with room for what fills it keeps its length.
 pub filled-length : {A : Type 0} (xs old : List A) → length xs ≤ length old → length (filled (figures xs) old) ≡ length old
-filled-length xs old l = length-append xs (drop (length xs) old) ∙ omega (arith, length-drop (length xs) old)
+filled-length xs old l = length-front old xs (length xs) (sym (length-take-le (length xs) old l))
 
 -- What fills the front of a list, read off it: as many entries as there are.
 module _ (a : Answer (List ℕ)) (old new : List ℕ) (n : ℕ) (e : figures n ≡ onFigures length a) (f : new ≡ filled a old) where
