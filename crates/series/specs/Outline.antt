@@ -1,28 +1,23 @@
--- What the search keeps of the best cutting of what is left of a trace: its cost, its buckets and its first run's length.
--- The longer a first run is, the later it is weighed, so equal cost and equally many buckets go to the later one; that this is
--- document 01's preference is a law (`OutlineLaws.first-outline`).
+-- What the search keeps of the best cutting of what is left of a trace: its cost, its buckets and its first run's length; and
+-- which of two is kept. That this is document 01's preference is a law (`SearchLaws.search-found`).
 -- Assumes nothing.
-use Prim.Native.Nat.{ℕ, zero, suc, _+_}
-use mathlib.Core.Bool.{Bool, cond, _&&_, _||_}
+use Prim.Native.Nat.{ℕ, _+_}
+use mathlib.Core.Bool.{Bool, cond}
 use mathlib.Core.List.{List}
-use lib.Dec.{ltb, leb, eqb}
+use lib.Dec.{ltb}
 use lib.ListN.{length, getD}
 use Rattle.terms.specs.declared.Tariff.{Tariff}
 use Rattle.terms.specs.Answer.{Answer, figures, refused}
-use Rattle.single.specs.declared.costs.Priced.{Priced}
+use Rattle.terms.specs.Records.{Cutting, runLength}
+use Rattle.single.specs.Preference.{smaller}
+use Rattle.series.specs.declared.outlines.Choice.{Choice}
 use Rattle.series.specs.declared.outlines.Outline.{Outline}
 use Rattle.series.specs.Cutting.{firstRun}
 use Rattle.series.specs.Series.{trueCost}
-use Rattle.terms.specs.Records.{Cutting, runLength}
 
 -- Stands for the cost where there is none. Every cost is below it (`OutlineLaws.carried-below`).
 abbrev pub unpriced : ℕ
 unpriced = 1000000000000000000
-
--- The cost of the bucket found for a run.
-abbrev pub priceOf : Answer Priced → ℕ
-priceOf (figures x) = x .cost
-priceOf (refused n) = unpriced
 
 abbrev pub noOutline : Outline
 noOutline = record { cost = unpriced; buckets = 0; first = 0 }
@@ -32,21 +27,15 @@ abbrev pub outlineOf : Tariff → Answer Cutting → Outline
 outlineOf t (figures xs) = record { cost = trueCost t xs; buckets = length xs; first = firstRun runLength xs }
 outlineOf t (refused n) = noOutline
 
--- The new one costs less than the old one, or the same with no more buckets.
-abbrev pub betters : Outline → Outline → Bool
-betters new old = ltb (new .cost) (old .cost) || eqb (new .cost) (old .cost) && leb (new .buckets) (old .buckets)
+-- The outline of a cutting whose first run has i + 1 periods and costs c. By i the lists hold the cost and the buckets of the
+-- best cutting of what is left.
+abbrev pub begun : List ℕ → List ℕ → ℕ → ℕ → Outline
+begun costs counts i c = record { cost = c + getD costs i 0; buckets = getD counts i 0 + 1; first = i + 1 }
 
-unfoldable pub betterOutline : Outline → Outline → Outline
-betterOutline old new = cond (betters new old) new old
+-- x is chosen before y: less cost, then fewer buckets, then the longer first run.
+unfoldable pub ahead : Outline → Outline → Bool
+ahead x y = smaller (x .cost) (y .cost) (smaller (x .buckets) (y .buckets) (ltb (y .first) (x .first)))
 
--- … and where the new one is that of no cutting it is passed over.
-unfoldable pub orBetter : Outline → Outline → Outline
-orBetter old new = cond (leb unpriced (new .cost)) old (betterOutline old new)
-
--- The best of those that begin with a run of 1, 2, .. or k periods. The lists hold, by the length of the run, its price and
--- the cost and the buckets of the best cutting of what is left.
-unfoldable pub firstOutline : List ℕ → List ℕ → List ℕ → ℕ → Outline
-firstOutline prices costs counts zero = noOutline
-firstOutline prices costs counts (suc k) =
-    orBetter (firstOutline prices costs counts k)
-    (record { cost = getD prices k 0 + getD costs k 0; buckets = getD counts k 0 + 1; first = suc k })
+-- The old one, or the new one where that is chosen before it.
+unfoldable pub betterChoice : Choice → Choice → Choice
+betterChoice old new = cond (ahead (new .outline) (old .outline)) new old

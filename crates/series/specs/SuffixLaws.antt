@@ -1,35 +1,39 @@
--- What the search keeps, from each period on, and how one more period is added in front.
+-- What the search keeps, from each period on; that what is found from one start on is the best cutting's outline; and how
+-- one more period is added in front.
 -- Assumes nothing.
 use Prim.Native.Nat.{ℕ, suc, _+_, _-_, _≤_, _<_}
 use native.Mathlib.Omega.{arith}
-use native.Mathlib.Nat.{le-refl}
 use native.Mathlib.Numerals.{add-one}
 use mathlib.Core.Path.{_≡_, refl, sym, ap, subst, _∙_}
-use mathlib.Core.Bool.{Bool, true, false}
+use mathlib.Core.Bool.{Bool, true, false, true≢false}
 use mathlib.Core.List.{List, [], _∷_}
+use mathlib.Core.Logic.{inl, inr}
 use borrow.Rule.Slice.PartAt.{part-count}
-use borrow.Author.Tests.{eqb-true, eqb-false}
-use lib.Dec.{eqb}
+use borrow.Author.Tests.{eqb-true, eqb-false, le-ltb}
+use lib.Dec.{eqb, ltb}
 use lib.ListN.{length, take, drop, getD, set, replicate, length-set, length-drop, drop-of-length-le, getD-replicate}
-use lib.Seq.{getD-take, getD-drop, drop-drop, length-take-le, getD-set-same, getD-set-other}
+use lib.Seq.{getD-take, getD-drop, drop-drop, getD-set-same, getD-set-other}
+use Rattle.terms.specs.declared.Rate.{Rate}
 use Rattle.terms.specs.declared.Tariff.{Tariff}
 use Rattle.terms.specs.Answer.{Answer, figures, refused}
 use Rattle.terms.specs.Limits.{traceLimit}
 use Rattle.terms.specs.RangeLaws.{TariffRange}
-use Rattle.single.specs.Rates.{candidates}
-use Rattle.single.specs.Single.{cheapestOf}
+use Rattle.terms.specs.Records.{Cutting, runLength, total}
+use Rattle.single.specs.Cost.{costOf}
+use Rattle.single.specs.PreferenceLaws.{not-smaller, smaller-not}
+use Rattle.single.specs.Single.{Serves, bucketOf}
+use Rattle.series.specs.declared.outlines.Choice.{Choice}
 use Rattle.series.specs.declared.outlines.Outline.{Outline}
-use Rattle.series.specs.Cutting.{bests}
-use Rattle.terms.specs.Records.{total}
-use Rattle.series.specs.CuttingLaws.{bests-are}
-use Rattle.series.specs.RunLaws.{bests-at}
-use Rattle.series.specs.Series.{runCost, ServesRun, runRecord, cheapestCut, planOf}
-use Rattle.terms.specs.Records.{Cutting, runLength}
-use Rattle.series.specs.SeriesLaws.{IsSeries, run-chosen, series-is}
-use Rattle.series.specs.Outline.{unpriced, priceOf, outlineOf, firstOutline}
-use Rattle.series.specs.OutlineLaws.{carried-below, outline-cost, outline-count, first-outline}
-use Rattle.series.specs.OutlineRanges.{OutlineRange}
-use Rattle.series.specs.PriceLaws.{Prices, price-below}
+use Rattle.series.specs.Charge.{CostRange, Stops}
+use Rattle.series.specs.ChargeLaws.{stops-far}
+use Rattle.series.specs.Cutting.{FirstRun, run, longer, wins, firstRun, bests}
+use Rattle.series.specs.CuttingLaws.{cut-first}
+use Rattle.series.specs.Outline.{unpriced, noOutline, outlineOf, begun, ahead}
+use Rattle.series.specs.OutlineLaws.{carried-below, outline-cost, outline-count, ahead-only, not-ahead-cost}
+use Rattle.series.specs.RunLaws.{best-of-none, best-runs}
+use Rattle.series.specs.SearchLaws.{startsWith, Passed, Served, Kind, Searching}
+use Rattle.series.specs.Series.{runCost, trueCost, ServesRun, Carried, preferred, runRecord, cheapestCut, planOf}
+use Rattle.series.specs.SeriesLaws.{IsSeries, series-is, record-whole}
 
 -- The outline of the best cutting of what is left from a period on.
 abbrev pub outlineFrom : Tariff → List ℕ → ℕ → Outline
@@ -65,12 +69,27 @@ pub record Left (t : Tariff) (ds : List ℕ) (costs counts : List ℕ) : Type 0 
   pub cost : After keptCost t ds costs
   pub count : After keptCount t ds counts
 
-module _ (t : Tariff) (h : TariffRange t) (ds : List ℕ) (few : length ds ≤ traceLimit) (prices costs counts : List ℕ) (p : Prices t ds (candidates t) prices) (k : Left t ds costs counts) where
-  left-price : (i : ℕ) → i < length ds → getD prices i 0 ≤ unpriced
-  left-price i l =
-      subst (λ (n : ℕ). n ≤ unpriced) (sym (p .each i l))
-      (price-below t (take (i + 1) ds) h (omega (arith, length-take-le (i + 1) ds (omega arith))) (candidates t) (le-refl _))
+-- A cost other than what stands for none is that of a cutting.
+pub outline-found : (t : Tariff) (a : Answer Cutting) → (outlineOf t a .cost ≡ unpriced → ⊥) → (xs : Cutting) × (a ≡ figures xs)
+outline-found t (figures xs) n = (xs, refl)
+outline-found t (refused m) n = absurd (n refl)
 
+-- ---- The best cutting of some periods, from those of what is left after its first run
+
+-- Where a cutting is not preferred its outline is not ahead.
+first-not-longer : (ys xs : Cutting) → longer runLength ys xs ≡ false → ltb (firstRun runLength xs) (firstRun runLength ys) ≡ false
+unfolding longer
+first-not-longer [] xs h = le-ltb (firstRun runLength xs) 0 (omega arith)
+first-not-longer (y ∷ ys) [] h = absurd (true≢false h)
+first-not-longer (y ∷ ys) (x ∷ xs) h = le-ltb (runLength x) (runLength y) (smaller-not (runLength x) (runLength y) _ h .0)
+
+not-preferred-ahead : (t : Tariff) (ys xs : Cutting) → preferred t ys xs ≡ false → ahead (outlineOf t (figures ys)) (outlineOf t (figures xs)) ≡ false
+unfolding wins ahead
+not-preferred-ahead t ys xs h =
+    let c = smaller-not (trueCost t ys) (trueCost t xs) _ h in
+    not-smaller _ _ _ (c .0) (λ e. let n = smaller-not (length ys) (length xs) _ (c .1 e) in not-smaller _ _ _ (n .0) (λ f. first-not-longer ys xs (n .1 f)))
+
+module _ (t : Tariff) (h : TariffRange t) (ds : List ℕ) (few : length ds ≤ traceLimit) (costs counts : List ℕ) (k : Left t ds costs counts) where
   -- A bound on a figure of every outline is one on the list.
   left-bound : (figure : Outline → ℕ) (limit : ℕ) (list : List ℕ)
       → ((es : List ℕ) → length es ≤ traceLimit → (a : Answer Cutting) → IsSeries t es a → figure (outlineOf t a) ≤ limit)
@@ -78,35 +97,99 @@ module _ (t : Tariff) (h : TariffRange t) (ds : List ℕ) (few : length ds ≤ t
   left-bound figure limit list bound a i l =
       subst (λ (n : ℕ). n ≤ limit) (sym (a .at i l)) (bound (drop (suc i) ds) (omega (arith, length-drop (suc i) ds)) (cheapestCut t (drop (suc i) ds)) (series-is t (drop (suc i) ds)))
 
-  -- The lists can be added up.
-  pub left-range : OutlineRange prices costs counts
-  left-range =
-      let n = k .cost .all in
+  -- The search can go on from a cost at which it stops.
+  pub left-searching : (stops : List ℕ) (c : Choice) → Stops (t .fee) (c .outline .cost) costs stops → Kind t ds costs counts (c .outline) → c .rate .0 ≤ t .«rate_cap» .0
+      → Searching t ds costs counts stops c
+  left-searching stops c s kind slow =
       record {
-        few = omega (arith, n);
-        priced = omega (arith, n, p .room);
-        counted = omega (arith, n, k .count .all);
-        price = λ i l. left-price i (omega (arith, n));
-        cost = λ i l. left-bound keptCost unpriced costs (outline-cost t h) (k .cost) i (omega (arith, n));
-        count = λ i l. left-bound keptCount traceLimit counts (outline-count t h) (k .count) i (omega (arith, n));
+        tariffs = h;
+        few = few;
+        costs-all = k .cost .all;
+        counts-all = k .count .all;
+        cost = left-bound keptCost unpriced costs (outline-cost t h) (k .cost);
+        count = left-bound keptCount traceLimit counts (outline-count t h) (k .count);
+        stopped = s;
+        kind = kind;
+        rate = slow;
       }
 
--- The best first run gives the outline of the best cutting.
-pub left-best : (t : Tariff) → TariffRange t → (ds : List ℕ) → length ds ≤ traceLimit → (prices costs counts : List ℕ) → Prices t ds (candidates t) prices → Left t ds costs counts
-    → firstOutline prices costs counts (length costs) ≡ outlineOf t (cheapestCut t ds)
-unfolding bests
-left-best t h [] few prices costs counts p k = absurd (omega (arith, k .some))
-left-best t h (d ∷ ds) few prices costs counts p k =
-    let rests = bests runLength (runCost t) (runRecord t) ds in
-    let at : (i : ℕ) → i < length (d ∷ ds) → cheapestCut t (drop i ds) ≡ getD rests i (refused 7) = λ i l. sym (bests-at runLength (runCost t) (runRecord t) ds i (omega arith)) in
-    ap (firstOutline prices costs counts) (k .cost .all)
-    ∙ first-outline t h (d ∷ ds) few rests (λ n l. bests-are runLength (runCost t) (ServesRun t) (runRecord t) (run-chosen t) ds n (omega arith)) prices costs counts
-    (record {
-      price = λ i l. p .each i l ∙ ap (λ (n : ℕ). priceOf (cheapestOf t (take n (d ∷ ds)))) (add-one i);
-      cost = λ i l. k .cost .at i l ∙ ap (λ (a : Answer Cutting). outlineOf t a .cost) (at i l);
-      count = λ i l. k .count .at i l ∙ ap (λ (a : Answer Cutting). outlineOf t a .buckets) (at i l);
-    })
-    (length (d ∷ ds)) (le-refl _)
+  pub left-costs : CostRange costs
+  left-costs = record { few = omega (arith, k .cost .all); each = λ i l. left-bound keptCost unpriced costs (outline-cost t h) (k .cost) i (omega (arith, k .cost .all)) }
+
+  -- The search begins with no cutting, and at no charge does it stop.
+  pub none-searching : (begin : Rate) → begin .0 ≤ t .«rate_cap» .0 → Searching t ds costs counts (replicate 512 (unpriced + 1)) (record { outline = noOutline; rate = begin })
+  none-searching begin slow =
+      let far = stops-far (t .fee) unpriced (unpriced + 1) costs (replicate 512 (unpriced + 1)) (omega arith) (omega arith) (omega (arith, k .cost .all)) (λ i l.
+      getD-replicate 512 i (unpriced + 1) 0 (omega (arith, k .cost .all))) in
+      left-searching (replicate 512 (unpriced + 1)) (record { outline = noOutline; rate = begin }) far (inl refl) slow
+
+  -- A first run that is served, with the best cutting of what is left after it.
+  module _ (i r B : ℕ) (inside : i < length ds) (s : Serves t (take (i + 1) ds) (bucketOf r B)) (zs : Cutting) (e : cheapestCut t (drop (suc i) ds) ≡ figures zs) where
+    abbrev whole : Cutting
+    whole = record { periods = suc i; bucket = bucketOf r B } ∷ zs
+
+    whole-carried : Carried t ds whole
+    whole-carried =
+        let f : FirstRun runLength (ServesRun t) ds (record { periods = suc i; bucket = bucketOf r B }) =
+        record { some = omega arith; inside = inside; fits = subst (λ (n : ℕ). Serves t (take n ds) (bucketOf r B)) (add-one i) s } in
+        run f (subst (IsSeries t (drop (suc i) ds)) e (series-is t (drop (suc i) ds)) .kind)
+
+    whole-outline : startsWith t ds costs counts i r B ≡ outlineOf t (figures whole)
+    unfolding total
+    whole-outline =
+        ap (λ (n : ℕ). begun costs counts i (costOf t n (bucketOf r B))) (add-one i)
+        ∙ ap (λ (n : ℕ). record { cost = costOf t (suc i) (bucketOf r B) + n; buckets = getD counts i 0 + 1; first = i + 1 }) (k .cost .at i inside ∙ ap (λ (a : Answer Cutting). outlineOf t a .cost) e)
+        ∙ ap (λ (n : ℕ). record { cost = trueCost t whole; buckets = n + 1; first = i + 1 }) (k .count .at i inside ∙ ap (λ (a : Answer Cutting). outlineOf t a .buckets) e)
+        ∙ ap (λ (n : ℕ). record { cost = trueCost t whole; buckets = n; first = i + 1 }) (add-one (length zs))
+        ∙ ap (λ (n : ℕ). record { cost = trueCost t whole; buckets = length whole; first = n }) (add-one i)
+
+  -- What is found, if it is not that of no cutting, is that of a carried one.
+  pub record Found (o : Outline) : Type 0 where
+    pub cut : Cutting
+    pub carried : Carried t ds cut
+    pub is : o ≡ outlineOf t (figures cut)
+
+  served-found : (o : Outline) → Served t ds costs counts o → Found o
+  served-found o s =
+      let i = s .place in
+      let l : getD costs i 0 < unpriced = omega (arith, s .below, ap (λ (x : Outline). x .cost) (s .is)) in
+      let rest = outline-found t (cheapestCut t (drop (suc i) ds)) (λ e. omega (arith, l, k .cost .at i (s .inside) ∙ e)) in
+      record {
+        cut = whole i (s .rate) (s .depth) (s .inside) (s .serves) (rest .0) (rest .1);
+        carried = whole-carried i (s .rate) (s .depth) (s .inside) (s .serves) (rest .0) (rest .1);
+        is = s .is ∙ whole-outline i (s .rate) (s .depth) (s .inside) (s .serves) (rest .0) (rest .1);
+      }
+
+  module _ (o : Outline) (kind : Kind t ds costs counts o) (passed : (r i : ℕ) → r ≤ t .«rate_cap» .0 → i < length ds → Passed t ds costs counts o r i) where
+    -- The best cutting is not ahead of what is found …
+    best-behind : (xs : Cutting) → cheapestCut t ds ≡ figures xs → Carried t ds xs → ahead (outlineOf t (figures xs)) o ≡ false
+    best-behind [] e c = absurd (omega (arith, k .some, ap length (best-of-none runLength (runCost t) (runRecord t) ds e)))
+    best-behind (x ∷ xs) e c =
+        let b = best-runs runLength (runCost t) (runRecord t) (record-whole t) ds x xs e in
+        let f = cut-first runLength (runCost t) (ServesRun t) c .0 .fits in
+        let i = runLength x - 1 in
+        let n : runLength x ≡ suc i = omega (arith, b .some) in
+        let inside : i < length ds = omega (arith, b .inside, n) in
+        let s : Serves t (take (i + 1) ds) (x .bucket) = subst (λ (m : ℕ). Serves t (take m ds) (x .bucket)) (n ∙ sym (add-one i)) f in
+        let rest : cheapestCut t (drop (suc i) ds) ≡ figures xs = subst (λ (m : ℕ). cheapestCut t (drop m ds) ≡ figures xs) n (b .onward) in
+        let is : startsWith t ds costs counts i (x .bucket .rate .0) (x .bucket .depth .0) ≡ outlineOf t (figures (x ∷ xs)) =
+        whole-outline i (x .bucket .rate .0) (x .bucket .depth .0) inside s xs rest ∙ ap (λ (m : ℕ). outlineOf t (figures (record { periods = m; bucket = x .bucket } ∷ xs))) (sym n) in
+        subst (λ (y : Outline). ahead y o ≡ false) is (passed (x .bucket .rate .0) i (f .rates) inside (x .bucket .depth .0) s)
+
+    -- … so what is found is its outline.
+    pub search-found : o ≡ outlineOf t (cheapestCut t ds)
+    search-found = go (cheapestCut t ds) refl (series-is t ds) kind
+      where
+        go : (a : Answer Cutting) → cheapestCut t ds ≡ a → IsSeries t ds a → Kind t ds costs counts o → o ≡ outlineOf t a
+        go (figures xs) e b (inl none) =
+            absurd (omega (arith, carried-below t h few (b .kind), not-ahead-cost o (outlineOf t (figures xs)) (best-behind xs e (b .kind)), ap (λ (x : Outline). x .cost) none))
+        go (figures xs) e b (inr s) =
+            let f = served-found o s in
+            ahead-only o (outlineOf t (figures xs))
+            (subst (λ (x : Outline). ahead x (outlineOf t (figures xs)) ≡ false) (sym (f .is)) (not-preferred-ahead t (f .cut) xs (b .none-preferred (f .cut) (f .carried))))
+            (best-behind xs e (b .kind))
+        go (refused n) e b (inl none) = none
+        go (refused n) e b (inr s) = let f = served-found o s in absurd (b .1 (f .cut) (f .carried))
 
 -- ---- One more period in front
 
@@ -173,15 +256,11 @@ held-start figure t ds few z = record { room = omega arith; at = λ j l m. getD-
 pub kept-start : (t : Tariff) (ds : List ℕ) → length ds ≤ traceLimit → Kept t ds (length ds) (replicate 513 0) (replicate 513 0) (replicate 513 0)
 kept-start t ds few = record { cost = held-start keptCost t ds few refl; count = held-start keptCount t ds few refl; first = held-start keptFirst t ds few refl }
 
--- An outline without a cost is that of refusal 7, and one with a cost gives the figures of a plan.
+-- An outline without a cost is that of refusal 7, and the outline of a cutting gives the figures of a plan.
 pub outline-none : (t : Tariff) → TariffRange t → (ds : List ℕ) → length ds ≤ traceLimit → (a : Answer Cutting) → IsSeries t ds a
     → outlineOf t a .cost ≡ unpriced → a ≡ refused 7
 outline-none t h ds few (figures xs) k e = absurd (omega (arith, carried-below t h few (k .kind)))
 outline-none t h ds few (refused n) k e = ap refused (k .0)
-
-pub outline-found : (t : Tariff) (a : Answer Cutting) → (outlineOf t a .cost ≡ unpriced → ⊥) → (xs : Cutting) × (a ≡ figures xs)
-outline-found t (figures xs) n = (xs, refl)
-outline-found t (refused m) n = absurd (n refl)
 
 pub outline-plan : (t : Tariff) (a : Answer Cutting) (xs : Cutting) → a ≡ figures xs → planOf t a ≡ figures (record { buckets = outlineOf t a .buckets; cost = outlineOf t a .cost })
 outline-plan t a xs e = ap (planOf t) e ∙ ap (λ (b : Answer Cutting). figures (record { buckets = outlineOf t b .buckets; cost = outlineOf t b .cost })) (sym e)

@@ -1,9 +1,10 @@
 // The cheapest cutting of a trace into runs with a bucket each, for the crates above.
+mod charges;
 pub mod lists;
 mod outlines;
 mod plans;
-mod prices;
 mod records;
+mod runs;
 mod suffixes;
 
 pub use plans::Plan;

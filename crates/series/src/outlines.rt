@@ -1,9 +1,8 @@
 // What the search keeps of a cutting, and which of two is kept. Public only for this crate's
-// search, which shows what each function requires.
+// search.
+use terms::Rate;
 ghost use mathlib.Core.Path.{_≡_};
-ghost use lib.ListN.{length};
-ghost use Rattle.series.specs.Outline.{betterOutline, firstOutline};
-ghost use Rattle.series.specs.OutlineRanges.{OutlineRange};
+ghost use Rattle.series.specs.Outline.{ahead, betterChoice};
 
 // Stands for the cost where there is no bucket or no cutting. Every cost is below it.
 pub const UNPRICED: u64 = 1_000_000_000_000_000_000;
@@ -15,46 +14,28 @@ pub struct Outline {
     pub first: u32,
 }
 
-// The best of the cuttings that begin with a run of 1, 2, 3, .. periods. The lists hold, by the
-// length of that run, its price and the cost and the buckets of the best cutting of what is left.
-// A length without a bucket, or with no cutting of what is left, is passed over.
-pub fn best_first(prices: &[u64], costs: &[u64], counts: &[u32]) -> Outline
-    requires { ⌜ OutlineRange (now prices) (now costs) (now counts) ⌝ }
-    ensures { λ r. ⌜ r ≡ firstOutline (now (prices .entry)) (now (costs .entry)) (now (counts .entry)) (length (now (costs .entry))) ⌝ }
-{
-    let mut best = Outline {
-        cost: UNPRICED,
-        buckets: 0,
-        first: 0,
-    };
-    let end = costs.len();
-    let mut i = 0;
-    while i < end {
-        let cost = prices[i] + costs[i];
-        let buckets = counts[i] + 1;
-        i += 1;
-        if UNPRICED <= cost {
-            continue;
-        }
-        best = better_of(
-            best,
-            Outline {
-                cost,
-                buckets,
-                first: i as u32,
-            },
-        );
-    }
-    best
+// A cutting's outline and the rate of its first run.
+pub struct Choice {
+    pub outline: Outline,
+    pub rate: Rate,
 }
 
-// The old one, or the new one, whose first run is longer, where that is preferred.
-fn better_of(old: Outline, new: Outline) -> Outline
-    ensures { λ r. ⌜ r ≡ betterOutline old new ⌝ }
+// The old one, or the new one where that is preferred.
+pub fn better_of(old: Choice, new: Choice) -> Choice
+    ensures { λ r. ⌜ r ≡ betterChoice old new ⌝ }
 {
-    let fewer = (new.cost == old.cost) & (new.buckets <= old.buckets);
-    if (new.cost < old.cost) | fewer {
+    if is_ahead(new.outline, old.outline) {
         return new;
     }
     old
+}
+
+// Whether x is chosen before y: at less cost, or equal cost and fewer buckets, or both equal and a
+// longer first run.
+fn is_ahead(x: Outline, y: Outline) -> bool
+    ensures { λ r. ⌜ r ≡ ahead x y ⌝ }
+{
+    let longer = (x.buckets == y.buckets) & (y.first < x.first);
+    let fewer = (x.buckets < y.buckets) | longer;
+    (x.cost < y.cost) | ((x.cost == y.cost) & fewer)
 }

@@ -1,15 +1,19 @@
--- The test is the definition's.
-use Rattle.series.specs.Outline.{betterOutline}
+-- The definition by cases.
+use Rattle.series.specs.Outline.{betterChoice}
+use borrow.Author.Needs.{needs}
 use Rattle.series.proofs.outlines.better_of.Statement.{statement}
 use Rattle.series.proofs.outlines.better_of.Tie as tie
 
+is-ahead-requires : tie.Need-is-ahead-requires
+is-ahead-requires c κs = search needs
+
 returns : tie.Need-returns
-unfolding betterOutline
-returns c = rw (c .if1 .taken)
+unfolding betterChoice
+returns c = rw (← c .before .is-ahead .ensures, c .if1 .taken)
 
 returns-2 : tie.Need-returns-2
-unfolding betterOutline
-returns-2 c = rw (c .if1 .left)
+unfolding betterChoice
+returns-2 c = rw (← c .before .is-ahead .ensures, c .if1 .left)
 
 pub better-of-spec : {M : Type 1} → statement M
-better-of-spec = tie.close (tie.spec returns returns-2)
+better-of-spec = tie.close (tie.spec is-ahead-requires returns returns-2)

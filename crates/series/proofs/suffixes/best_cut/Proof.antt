@@ -1,26 +1,46 @@
--- The prices are those of the runs from here on, so the best first run is that of the best cutting.
-use Rattle.series.specs.SuffixLaws.{left-range, left-best}
+-- The rate to begin with gives a cost, at which the walks at all rates can stop; what they leave is the best cutting's outline.
+use Rattle.series.specs.SearchLaws.{kind-cost, weighed-all}
+use Rattle.series.specs.SuffixLaws.{left-costs, left-searching, none-searching, search-found}
 use borrow.Author.Needs.{needs}
-use mathlib.Core.Path.{_∙_}
 use Rattle.series.proofs.suffixes.best_cut.Statement.{statement}
 use Rattle.series.proofs.suffixes.best_cut.Tie as tie
 
-prices-of-requires : tie.Need-prices-of-requires
-prices-of-requires c κs = search needs
+slice-aggregate-weigh-rate : tie.Need-slice-aggregate-weigh-rate
+slice-aggregate-weigh-rate c = search needs
 
-slice-aggregate-best-first : tie.Need-slice-aggregate-best-first
-slice-aggregate-best-first c = search needs
+weigh-rate-requires : tie.Need-weigh-rate-requires
+weigh-rate-requires c κs =
+    let p = c .before .before .before .before .pre in
+    (p .1 .1 .0, none-searching _ (p .1 .0) _ (p .0) _ _ (p .1 .1 .1) _ (p .1 .1 .0))
 
-best-first-requires : tie.Need-best-first-requires
-best-first-requires c κs =
-    let s = c .before .before .before .before .before in
-    left-range _ (s .pre .1 .0) _ (s .pre .0) _ _ _ (c .before .prices-of .ensures) (s .pre .1 .1)
+stops-of-requires : tie.Need-stops-of-requires
+stops-of-requires c κs =
+    let p = c .before .before .before .before .before .pre in
+    (left-costs _ (p .1 .0) _ (p .0) _ _ (p .1 .1 .1), (p .1 .0 .fees, kind-cost _ _ _ _ _ (c .weigh-rate .ensures .kind)))
+
+slice-aggregate-weigh-all : tie.Need-slice-aggregate-weigh-all
+slice-aggregate-weigh-all c = search needs
+
+weigh-all-requires : tie.Need-weigh-all-requires
+weigh-all-requires c κs =
+    let d = c .before in
+    let w = d .before .weigh-rate .ensures in
+    let p = d .before .before .before .before .before .before .pre in
+    left-searching _ (p .1 .0) _ (p .0) _ _ (p .1 .1 .1) _ _ (d .stops-of .ensures) (w .kind) (w .rate)
 
 returns : tie.Need-returns
 returns c =
-    let s = c .before .before .before .before .before .before in
-    c .best-first .ensures ∙ left-best _ (s .pre .1 .0) _ (s .pre .0) _ _ _ (c .before .before .prices-of .ensures) (s .pre .1 .1)
+    let w = c .weigh-all .ensures in
+    let p = c .before .before .before .before .before .before .before .before .pre in
+    (search-found _ (p .1 .0) _ (p .0) _ _ (p .1 .1 .1) _ (w .kind) (weighed-all _ _ _ _ w), w .rate)
 
 pub best-cut-spec : {M : Type 1} → statement M
 best-cut-spec =
-    tie.close (tie.spec prices-of-requires slice-aggregate-best-first best-first-requires returns)
+    tie.close
+    (tie.spec
+    slice-aggregate-weigh-rate
+    weigh-rate-requires
+    stops-of-requires
+    slice-aggregate-weigh-all
+    weigh-all-requires
+    returns)

@@ -4,7 +4,8 @@ use native.Mathlib.Omega.{arith}
 use Rattle.series.specs.Outline.{outlineOf}
 use Rattle.series.specs.Series.{cheapestCut}
 use Rattle.series.specs.SuffixLaws.{Kept, Left, kept-left, kept-more}
-use Rattle.series.specs.declared.outlines.Outline.{Outline}
+use Rattle.series.specs.declared.outlines.Choice.{Choice}
+use Rattle.terms.specs.declared.Rate.{Rate}
 use Rattle.terms.specs.declared.Tariff.{Tariff}
 use borrow.Author.Needs.{needs}
 use lib.ListN.{length, take, drop, set, length-set, length-take}
@@ -15,14 +16,15 @@ use mathlib.Core.Path.{_≡_, sym, ap, subst, _∙_}
 use Rattle.series.proofs.suffixes.cut_suffixes.Statement.{statement}
 use Rattle.series.proofs.suffixes.cut_suffixes.Tie as tie
 
-record Keeping (t : Tariff) (ds costs₀ counts₀ firsts₀ : List ℕ) (next : ℕ) (costs counts firsts : List ℕ) : Type 0 where
+record Keeping (t : Tariff) (ds costs₀ counts₀ firsts₀ : List ℕ) (next : ℕ) (costs counts firsts : List ℕ) (begin : Rate) : Type 0 where
+  rate : begin .0 ≤ t .«rate_cap» .0
   inside : next ≤ length ds
   costs-same : length costs ≡ length costs₀
   counts-same : length counts ≡ length counts₀
   firsts-same : length firsts ≡ length firsts₀
   kept : Kept t ds next costs counts firsts
 
-module _ (t : Tariff) (ds costs₀ counts₀ firsts₀ : List ℕ) (next : ℕ) (costs counts firsts : List ℕ) (k : Keeping t ds costs₀ counts₀ firsts₀ next costs counts firsts) (some : 0 < next) where
+module _ (t : Tariff) (ds costs₀ counts₀ firsts₀ : List ℕ) (next : ℕ) (costs counts firsts : List ℕ) (begin : Rate) (k : Keeping t ds costs₀ counts₀ firsts₀ next costs counts firsts begin) (some : 0 < next) where
   -- the period that a turn adds
   one-before : suc (next - 1) ≡ next
   one-before = omega arith
@@ -36,10 +38,12 @@ module _ (t : Tariff) (ds costs₀ counts₀ firsts₀ : List ℕ) (next : ℕ) 
       (subst (λ (n : ℕ). Left t (drop (next - 1) ds) (take (length ds + 1 - n) (drop n costs)) (take (length ds + 1 - n) (drop n counts))) one-before
       (kept-left t ds (next - 1) (omega (arith, k .inside)) costs counts firsts kept-next))
 
-  step : (o : Outline) → o ≡ outlineOf t (cheapestCut t (take (length ds - (next - 1)) (drop (next - 1) ds)))
-      → Keeping t ds costs₀ counts₀ firsts₀ (next - 1) (set costs (next - 1) (o .cost)) (set counts (next - 1) (o .buckets)) (set firsts (next - 1) (o .first))
-  step o e =
+  step : (c : Choice) → c .outline ≡ outlineOf t (cheapestCut t (take (length ds - (next - 1)) (drop (next - 1) ds))) → c .rate .0 ≤ t .«rate_cap» .0 → let o = c .outline in
+      Keeping t ds costs₀ counts₀ firsts₀ (next - 1) (set costs (next - 1) (o .cost)) (set counts (next - 1) (o .buckets)) (set firsts (next - 1) (o .first)) (c .rate)
+  step c e slow =
+      let o = c .outline in
       record {
+        rate = slow;
         inside = omega (arith, k .inside);
         costs-same = length-set costs (next - 1) (o .cost) ∙ k .costs-same;
         counts-same = length-set counts (next - 1) (o .buckets) ∙ k .counts-same;
@@ -52,17 +56,17 @@ module _ (t : Tariff) (ds costs₀ counts₀ firsts₀ : List ℕ) (next : ℕ) 
 few-left : (ds : List ℕ) (a : ℕ) → length ds ≤ traceLimit → length (take (length ds - a) (drop a ds)) ≤ traceLimit
 few-left ds a few = omega (arith, length-take (length ds - a) (drop a ds))
 
-end : (t : Tariff) (ds costs₀ counts₀ firsts₀ : List ℕ) (next : ℕ) (costs counts firsts : List ℕ) → Keeping t ds costs₀ counts₀ firsts₀ next costs counts firsts → next ≤ 0
+end : (t : Tariff) (ds costs₀ counts₀ firsts₀ : List ℕ) (next : ℕ) (costs counts firsts : List ℕ) (begin : Rate) → Keeping t ds costs₀ counts₀ firsts₀ next costs counts firsts begin → next ≤ 0
     → Kept t ds 0 costs counts firsts
-end t ds costs₀ counts₀ firsts₀ next costs counts firsts k l =
+end t ds costs₀ counts₀ firsts₀ next costs counts firsts begin k l =
     let e : next ≡ 0 = omega arith in
     subst (λ (n : ℕ). Kept t ds n costs counts firsts) e (k .kept)
 
 abbrev Inv-loop : tie.InvT-loop
-Inv-loop trace tariff costs₀ counts₀ firsts₀ end next₀ costs counts firsts next = Keeping tariff trace costs₀ counts₀ firsts₀ next costs counts firsts
+Inv-loop trace tariff costs₀ counts₀ firsts₀ end next₀ begin₀ costs counts firsts next begin = Keeping tariff trace costs₀ counts₀ firsts₀ next costs counts firsts begin
 
 abbrev μ-loop : tie.MeasureT-loop
-μ-loop trace tariff costs₀ counts₀ firsts₀ end next₀ costs counts firsts next = next
+μ-loop trace tariff costs₀ counts₀ firsts₀ end next₀ begin₀ costs counts firsts next begin = next
 
 add-end : tie.Need-add-end Inv-loop μ-loop
 add-end c = search needs
@@ -113,7 +117,7 @@ best-cut-requires : tie.Need-best-cut-requires Inv-loop μ-loop
 best-cut-requires c κs =
     let i = c .before .before .before .before .before in
     let s = i .before .before .before .before .before .before in
-    (few-left (s .args .trace .now) (i .before .loop .next - 1) (s .pre .0), (s .pre .1 .0, left _ _ _ _ _ _ _ _ _ (i .before .loop .inv) (i .loop-test .taken)))
+    (few-left (s .args .trace .now) (i .before .loop .next - 1) (s .pre .0), (s .pre .1 .0, (i .before .loop .inv .rate, left _ _ _ _ _ _ _ _ _ _ (i .before .loop .inv) (i .loop-test .taken))))
 
 mul-costs : tie.Need-mul-costs Inv-loop μ-loop
 mul-costs c = search needs
@@ -138,8 +142,9 @@ loop-less c = search needs
 
 loop-again : tie.Need-loop-again Inv-loop μ-loop
 loop-again c =
-    let i = c .before .before .before .before .before .before in
-    step _ _ _ _ _ _ _ _ _ (i .before .loop .inv) (i .loop-test .taken) _ (c .best-cut .ensures)
+    let d = c .before in
+    let i = d .before .before .before .before .before .before in
+    step _ _ _ _ _ _ _ _ _ _ (i .before .loop .inv) (i .loop-test .taken) _ (d .best-cut .ensures .0) (d .best-cut .ensures .1)
 
 same-length : tie.Need-same-length Inv-loop μ-loop
 same-length c = search needs
@@ -151,7 +156,7 @@ same-length-3 : tie.Need-same-length-3 Inv-loop μ-loop
 same-length-3 c = search needs
 
 returns : tie.Need-returns Inv-loop μ-loop
-returns c = end _ _ _ _ _ _ _ _ _ (c .before .loop .inv) (c .loop-test .left)
+returns c = end _ _ _ _ _ _ _ _ _ _ (c .before .loop .inv) (c .loop-test .left)
 
 pub cut-suffixes-spec : {M : Type 1} → statement M
 cut-suffixes-spec =
