@@ -4,10 +4,9 @@ use Prim.Native.Nat.{ℕ, _+_, _*_, _≤_, _<_}
 use native.Mathlib.Omega.{arith}
 use native.Mathlib.Nat.{le-trans, le-of-lt, le-antisymm}
 use mathlib.Core.Path.{_≡_, ap, _∙_}
-use mathlib.Core.Bool.{Bool, true, false}
+use mathlib.Core.Bool.{true, false}
 use mathlib.Core.List.{List}
 use borrow.Author.Tests.{ltb-true, ltb-false, le-ltb}
-use lib.Dec.{ltb}
 use lib.ListN.{length, length-drop}
 use Rattle.terms.specs.declared.Tariff.{Tariff}
 use Rattle.terms.specs.Answer.{Answer, figures, refused}
@@ -15,7 +14,6 @@ use Rattle.terms.specs.Limits.{feeLimit, traceLimit}
 use Rattle.terms.specs.RangeLaws.{TariffRange}
 use Rattle.terms.specs.Records.{Cutting, total}
 use Rattle.single.specs.CostLaws.{periodLimit, cost-le}
-use Rattle.single.specs.Preference.{smaller}
 use Rattle.single.specs.PreferenceLaws.{not-smaller, smaller-not, smaller-trans, smaller-same, smaller-asym}
 use Rattle.series.specs.declared.outlines.Outline.{Outline}
 use Rattle.series.specs.Cutting.{none, run}

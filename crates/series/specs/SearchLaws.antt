@@ -1,20 +1,19 @@
 -- The search from one start on finds the outline of the best cutting: what it has weighed, or shown to cost more than what is
 -- found, is not chosen before what is found.
 -- Assumes nothing.
-use Prim.Native.Nat.{ℕ, suc, _+_, _*_, _≤_, _<_}
+use Prim.Native.Nat.{ℕ, _+_, _*_, _≤_, _<_}
 use native.Mathlib.Omega.{arith}
 use native.Mathlib.Nat.{le-refl, le-trans, le-of-eq, le-antisymm, add-le-add, mul-le-mul-right}
-use native.Mathlib.Numerals.{add-one}
 use mathlib.Core.Path.{_≡_, refl, sym, ap, subst, _∙_}
-use mathlib.Core.Bool.{Bool, true, false, false≢true, cond}
+use mathlib.Core.Bool.{Bool, true, false, cond}
 use mathlib.Core.List.{List}
-use mathlib.Core.Logic.{_⊎_, inl, inr, ⊎-elim}
+use mathlib.Core.Logic.{_⊎_, inr, ⊎-elim}
 use borrow.Author.Tests.{leb-true, leb-false}
 use lib.Dec.{leb}
 use lib.ListN.{length, take, getD}
 use lib.Seq.{take-length}
 use Rattle.terms.specs.declared.Tariff.{Tariff}
-use Rattle.terms.specs.Answer.{Answer, figures}
+use Rattle.terms.specs.Answer.{figures}
 use Rattle.terms.specs.Bools.{true-false}
 use Rattle.terms.specs.Limits.{traceLimit}
 use Rattle.terms.specs.RangeLaws.{TariffRange}
@@ -24,7 +23,7 @@ use Rattle.depth.specs.DepthLaws.{depth-within, depth-carries, depth-least}
 use Rattle.single.specs.Cost.{costOf}
 use Rattle.single.specs.CostLaws.{cost-mono}
 use Rattle.single.specs.RateLaws.{greatest-carries}
-use Rattle.single.specs.Rates.{candidates, greatest, weighed}
+use Rattle.single.specs.Rates.{greatest, weighed}
 use Rattle.single.specs.Single.{Serves, bucketOf}
 use Rattle.series.specs.declared.outlines.Choice.{Choice}
 use Rattle.series.specs.declared.outlines.Outline.{Outline}
@@ -81,7 +80,7 @@ module _ (t : Tariff) (ds costs counts : List ℕ) where
     stop-passed o stops k n j x y = passed-dear o r j charge (λ B s. least-from j B x s) (k .beyond i j charge x y n)
 
   -- What is kept once the run of i + 1 periods is weighed at rate r.
-  pub record Kept (r i : ℕ) (old new : Choice) : Type 0 where
+  pub record RunWeighed (r i : ℕ) (old new : Choice) : Type 0 where
     pub kind : Kind (new .outline)
     pub rate : new .rate .0 ≤ t .«rate_cap» .0
     pub kept : ahead (old .outline) (new .outline) ≡ false
@@ -110,14 +109,14 @@ module _ (t : Tariff) (ds costs counts : List ℕ) where
         go true f = absurd (true-false h (not (leb-true _ _ f)))
         go false f = leb-false _ _ f
 
-    pub run-kept : (old run : Choice) → Kind (old .outline) → old .rate .0 ≤ t .«rate_cap» .0 → run .outline ≡ this → run .rate .0 ≡ r → Kept r i old (betterChoice old run)
+    pub run-kept : (old run : Choice) → Kind (old .outline) → old .rate .0 ≤ t .«rate_cap» .0 → run .outline ≡ this → run .rate .0 ≡ r → RunWeighed r i old (betterChoice old run)
     unfolding betterChoice
     run-kept old run k n f g = go (ahead (run .outline) (old .outline)) refl
       where
         at-this : (P : Outline → Type 0) → P this → P (run .outline)
         at-this P x = subst P (sym f) x
 
-        go : (b : Bool) → ahead (run .outline) (old .outline) ≡ b → Kept r i old (cond b run old)
+        go : (b : Bool) → ahead (run .outline) (old .outline) ≡ b → RunWeighed r i old (cond b run old)
         go true h =
             let below = this-below (old .outline) k (subst (λ (x : Outline). ahead x (old .outline) ≡ true) f h) in
             record {

@@ -3,7 +3,7 @@
 -- Assumes nothing.
 use Prim.Native.Nat.{ℕ, _+_, _*_, _≤_, _<_}
 use native.Mathlib.Omega.{arith}
-use native.Mathlib.Nat.{le-refl, le-trans, le-of-eq, le-antisymm, lt-of-le-of-lt, lt-of-lt-of-le}
+use native.Mathlib.Nat.{le-refl, le-trans, le-of-eq, le-antisymm}
 use mathlib.Core.Path.{_≡_, refl, sym, ap, subst, _∙_}
 use mathlib.Core.Bool.{Bool, true, false}
 use mathlib.Core.List.{List}
@@ -11,22 +11,20 @@ use borrow.Author.Count.{below-more}
 use borrow.Author.Tests.{leb-true, leb-false}
 use lib.Dec.{leb}
 use lib.ListN.{length, take, getD}
-use Rattle.terms.specs.declared.Rate.{Rate}
 use Rattle.terms.specs.declared.Tariff.{Tariff}
-use Rattle.terms.specs.Answer.{Answer, figures}
+use Rattle.terms.specs.Answer.{figures}
 use Rattle.depth.specs.Depth.{tariffDepth}
 use Rattle.depth.specs.DepthLaws.{depth-within}
 use Rattle.single.specs.Cost.{costOf}
 use Rattle.single.specs.CostLaws.{periodLimit}
-use Rattle.single.specs.Single.{bucketOf}
 use Rattle.series.specs.declared.charges.Charged.{Charged}
 use Rattle.series.specs.declared.outlines.Choice.{Choice}
 use Rattle.series.specs.declared.outlines.Outline.{Outline}
-use Rattle.series.specs.Charge.{chargeOf, noCharge, chargeAt, Stepped, Stops}
+use Rattle.series.specs.Charge.{noCharge, chargeAt, Stepped}
 use Rattle.series.specs.ChargeLaws.{Walked, walked-next, walked-charge, charge-found, charge-le, stops-lower}
 use Rattle.series.specs.Outline.{ahead, betterChoice}
 use Rattle.series.specs.OutlineLaws.{not-ahead-trans, ahead-self, not-ahead-cost}
-use Rattle.series.specs.SearchLaws.{Passed, Kind, Kept, Searching, Weighed, startsWith, passed-on, end-passed, stop-passed, run-kept}
+use Rattle.series.specs.SearchLaws.{Passed, Kind, RunWeighed, Searching, Weighed, startsWith, passed-on, end-passed, stop-passed, run-kept}
 
 module _ (t : Tariff) (ds costs counts : List ℕ) (found : Choice) where
   -- The runs of 1 to i periods, at the rates from low to high, are not chosen before what is found.
@@ -141,12 +139,12 @@ module _ (t : Tariff) (ds costs counts stops : List ℕ) (found : Choice) (k : S
               ap (λ (x : ℕ). record { cost = x; buckets = getD counts i 0 + 1; first = i + 1 })
               (e ∙ ap (λ (x : ℕ). x * (i + 1) + t .fee + getD costs i 0) (charge-is r r i c n (g .walk) l s ∙ ap (chargeAt t r) (depth .1)))
 
-          kept-this : Kept t ds costs counts r i best (betterChoice best this)
+          kept-this : RunWeighed t ds costs counts r i best (betterChoice best this)
           kept-this = run-kept t ds costs counts r i (depth .0) l slow (depth .1) best this (g .kind) (g .rate) this-is refl
 
           pub weighing-next : (next : Choice) → next ≡ betterChoice best this → Weighing t ds costs counts found r next n (i + 1)
           weighing-next next f =
-              let x : Kept t ds costs counts r i best next = subst (Kept t ds costs counts r i best) (sym f) kept-this in
+              let x : RunWeighed t ds costs counts r i best next = subst (RunWeighed t ds costs counts r i best) (sym f) kept-this in
               record {
                 walk = walk-on r r i c n (g .walk) l s m;
                 kind = x .kind;

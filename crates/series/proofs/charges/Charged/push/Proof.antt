@@ -1,15 +1,15 @@
 -- The depth one period on, by cases: none, and the charge stands for none; or one inside the cap.
-use Prim.Native.Nat.{ℕ, _≤_, _-_}
+use Prim.Native.Nat.{_≤_, _-_}
 use Rattle.series.specs.Charge.{chargeAt, walkDepth}
 use Rattle.series.specs.ChargeLaws.{pushed-stretch, rate-le, depth-le}
 use Rattle.depth.specs.Depth.{depthSays}
 use Rattle.depth.specs.DepthLaws.{walk-within}
 use Rattle.depth.specs.WalkRanges.{WalkRange, range-pushed}
 use Rattle.depth.specs.declared.walk.Walk.{Walk}
-use Rattle.terms.specs.Answer.{Answer, figures}
+use Rattle.terms.specs.Answer.{figures}
 use Rattle.terms.specs.Limits.{traceLimit}
 use borrow.Author.Needs.{needs}
-use mathlib.Core.Path.{_≡_, refl, sym, ap, subst, _∙_}
+use mathlib.Core.Path.{_≡_, sym, ap, subst, _∙_}
 use native.Mathlib.Nat.{le-trans}
 use native.Mathlib.Omega.{arith}
 use Rattle.series.proofs.charges.Charged.push.Statement.{statement}
