@@ -35,6 +35,9 @@ pub fn better_of(old: Choice, new: Choice) -> Choice
 fn is_ahead(x: Outline, y: Outline) -> bool
     ensures { λ r. ⌜ r ≡ ahead x y ⌝ }
 {
+    if y.cost < x.cost {
+        return false;
+    }
     let longer = (x.buckets == y.buckets) & (y.first < x.first);
     let fewer = (x.buckets < y.buckets) | longer;
     (x.cost < y.cost) | ((x.cost == y.cost) & fewer)

@@ -1,13 +1,17 @@
--- The tests are the definition's.
+-- What costs more is not ahead; the other tests are the definition's.
 use Rattle.series.specs.Outline.{ahead}
+use Rattle.series.specs.OutlineLaws.{dearer-not-ahead}
 use Rattle.single.specs.Preference.{smaller}
-use mathlib.Core.Path.{refl}
+use mathlib.Core.Path.{refl, sym}
 use Rattle.series.proofs.outlines.is_ahead.Statement.{statement}
 use Rattle.series.proofs.outlines.is_ahead.Tie as tie
 
 returns : tie.Need-returns
+returns c = sym (dearer-not-ahead _ _ (c .if1 .taken))
+
+returns-2 : tie.Need-returns-2
 unfolding ahead smaller
-returns c = refl
+returns-2 c = refl
 
 pub is-ahead-spec : {M : Type 1} → statement M
-is-ahead-spec = tie.close (tie.spec returns)
+is-ahead-spec = tie.close (tie.spec returns returns-2)
