@@ -9,7 +9,7 @@ use mathlib.Core.Bool.{Bool, true, false, false≢true}
 use mathlib.Core.List.{List, [], _∷_}
 use borrow.Author.Tests.{eq-eqb, leb-true, leb-false, ltb-true}
 use lib.Dec.{leb}
-use lib.ListN.{length, take}
+use lib.ListN.{length}
 use Rattle.terms.specs.declared.Tariff.{Tariff}
 use Rattle.terms.specs.Answer.{Answer, figures, refused}
 use Rattle.terms.specs.Bools.{both-and}
@@ -94,13 +94,3 @@ module _ (t : Tariff) (ds : List ℕ) where
 -- Only rates up to the cap are weighed.
 pub inside-cap : (t : Tariff) (ds : List ℕ) (end k : ℕ) → end ≡ weighed t ds → k < end → k ≤ t .«rate_cap» .0
 inside-cap t ds end k e l = omega (arith, min-le-left (t .«rate_cap» .0) (greatest ds))
-
--- What has to be weighed for a trace is enough for each run at its front.
-greatest-take : (n : ℕ) (ds : List ℕ) → greatest (take n ds) ≤ greatest ds
-unfolding greatest
-greatest-take zero ds = omega arith
-greatest-take (suc n) [] = omega arith
-greatest-take (suc n) (d ∷ ds) = omega (arith, greatest-take n ds)
-
-pub weighed-front : (t : Tariff) (n : ℕ) (ds : List ℕ) → bestOf t (take n ds) (weighed t ds) ≡ cheapestOf t (take n ds)
-weighed-front t n ds = weighed-more t (take n ds) (weighed t ds) (omega (arith, greatest-take n ds)) (omega arith)
