@@ -3,3 +3,4 @@ pub mod Answers
 pub mod OrderLaws
 pub mod PlanLaws
 pub mod MeterLaws
+pub mod FigureLaws

@@ -1,4 +1,5 @@
 -- Each refusal is the first rule that its test finds broken; past both tests the tariff is that of the seven figures.
+use native.Mathlib.Omega.{arith}
 use mathlib.Core.Path.{ap, _∙_}
 use borrow.Author.Tests.{eq-eqb, ne-eqb}
 use Rattle.terms.specs.Bools.{check-passed, check-failed}
@@ -31,7 +32,7 @@ returns-2 c =
     (c .coded-refusal2 .ensures ∙ ap coded (k .0), k .1)
 
 tariff-of-requires : tie.Need-tariff-of-requires
-tariff-of-requires c κs = search needs
+tariff-of-requires c κs = omega (arith, c .if2 .left)
 
 write-order-requires : tie.Need-write-order-requires
 write-order-requires c κs = search needs
