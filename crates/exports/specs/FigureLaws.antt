@@ -1,13 +1,12 @@
 -- Every figure that is answered is below 10^18, so that the number answered tells figures from refusals: no two answers share
 -- one.
 -- Assumes nothing.
-use Prim.Native.Nat.{ℕ, _+_, _*_, _≤_, _<_, _-_, _^_}
+use Prim.Native.Nat.{ℕ, suc, _+_, _*_, _≤_, _<_, _-_, _^_}
 use native.Mathlib.Omega.{arith}
-use native.Mathlib.Nat.{le-trans}
 use mathlib.Core.Path.{_≡_, refl, sym, ap, subst, _∙_}
 use mathlib.Core.Bool.{Bool, true, false, cond}
 use mathlib.Core.List.{List, [], _∷_}
-use borrow.Author.Tests.{ltb-true, ltb-false}
+use borrow.Author.Tests.{ltb-true}
 use lib.Dec.{eqb, leb, ltb}
 use lib.IntN.{ℤ, pos, negsuc, natAbs}
 use lib.ListN.{length, length-append}
@@ -15,16 +14,18 @@ use lib.Signed.{leZ}
 use Rattle.terms.specs.declared.Bucket.{Bucket}
 use Rattle.terms.specs.declared.Factor.{Factor}
 use Rattle.terms.specs.Answer.{Answer, figures, refused, onFigures}
-use Rattle.terms.specs.AnswerLaws.{same-figures, figures-refused, weigh-figures, on-figures, then-found}
+use Rattle.terms.specs.AnswerLaws.{same-figures, weigh-figures, on-figures, then-found}
 use Rattle.terms.specs.Limits.{demandLimit, depthLimit, meterLimit, rateLimit, traceLimit}
 use Rattle.terms.specs.Ranges.{freshOk, periodsOk, tariffOk}
-use Rattle.terms.specs.RangeLaws.{FreshRange, fresh-range, periods-range}
+use Rattle.terms.specs.RangeLaws.{fresh-range, periods-range}
+use Rattle.terms.specs.Records.{Each}
 use Rattle.bucket.specs.Laws.{demands-tail, start-le, sub-is}
-use Rattle.bucket.specs.Step.{held, over}
+use Rattle.bucket.specs.declared.trials.TrialFigures.{TrialFigures}
+use Rattle.bucket.specs.Step.{held, startOf}
 use Rattle.bucket.specs.Trace.{Demands, gap, gaps, leastOf, minZ, overAll, spareFrom, sumOf}
 use Rattle.bucket.specs.Trial.{trialFigures, trialOf}
 use Rattle.meter.specs.declared.meters.Meter.{Meter}
-use Rattle.meter.specs.Meter.{freshMeter, meterOk, meterRun, offerOf, offersOf, openOf, recordAfter}
+use Rattle.meter.specs.Meter.{freshMeter, meterOk, offerOf, offersOf, openOf, recordAfter}
 use Rattle.depth.specs.DepthLaws.{depth-found}
 use Rattle.single.specs.Single.{singleOf}
 use Rattle.series.specs.OutlineLaws.{carried-below, carried-cost, carried-count}
@@ -32,7 +33,7 @@ use Rattle.series.specs.Series.{trueCost}
 use Rattle.encoding.specs.NumberLaws.{Bytes}
 use Rattle.order_file.specs.Order.{orderLength, writeOrder}
 use Rattle.order_file.specs.OrderRules.{length-order}
-use Rattle.order_file.specs.Ordered.{Ordered, ordered}
+use Rattle.order_file.specs.Ordered.{ordered}
 use Rattle.order_file.specs.OrderedLaws.{is-ordered, ordered-count, ordered-range, spread-demands}
 use Rattle.plan_file.specs.Plan.{fitting, planIn, readPlan}
 use Rattle.plan_file.specs.Plan as plan
@@ -80,6 +81,61 @@ depth-below r bs n e =
     omega (arith, depth-found (g .0 .order .tariff) r (g .0 .demands) (g .2) .within, t .depth-caps)
 
 -- ---- Texts
+
+gap-small : (r y d k : ℕ) → y + r ≤ k → d ≤ k → natAbs (gap r y d) ≤ k
+gap-small r y d k h l = rw (sub-is (y + r) d) (go (ltb (y + r) d) refl)
+  where
+    go : (b : Bool) → ltb (y + r) d ≡ b → natAbs (cond b (negsuc (d - suc (y + r))) (pos (y + r - d))) ≤ k
+    go true e = omega (arith, ltb-true)
+    go false e = omega arith
+
+gaps-small : (r B y : ℕ) (ds : List ℕ) (k : ℕ) → B + r ≤ k → demandLimit ≤ k → y ≤ B → Demands ds → Each (λ x. natAbs x ≤ k) (gaps r B y ds)
+unfolding gaps
+gaps-small r B y [] k h l m D = tt
+gaps-small r B y (d ∷ ds) k h l m D =
+    (gap-small r y d k (omega arith) (omega (arith, D .each 0)), gaps-small r B (held r B y d) ds k h l (omega arith) (demands-tail D))
+
+least-small : (k : ℕ) (z : ℤ) (xs : List ℤ) → natAbs z ≤ k → Each (λ x. natAbs x ≤ k) xs → natAbs (leastOf z xs) ≤ k
+unfolding leastOf
+least-small k z [] h a = h
+least-small k z (x ∷ xs) h a = least-small k (minZ z x) xs (go (leZ z x)) (a .1)
+  where
+    go : (b : Bool) → natAbs (cond b z x) ≤ k
+    go true = h
+    go false = a .0
+
+spare-small : (r B y : ℕ) (ds : List ℕ) (k : ℕ) → B + r ≤ k → demandLimit ≤ k → y ≤ B → Demands ds → natAbs (spareFrom r B y ds) ≤ k
+unfolding spareFrom gaps
+spare-small r B y [] k h l m D = omega arith
+spare-small r B y (d ∷ ds) k h l m D = let a = gaps-small r B y (d ∷ ds) k h l m D in least-small k (gap r y d) (gaps r B (held r B y d) ds) (a .0) (a .1)
+
+over-small : (r B y : ℕ) (ds : List ℕ) → Demands ds → overAll r B y ds ≤ demandLimit * length ds
+unfolding sumOf
+over-small r B y [] D = omega arith
+over-small r B y (d ∷ ds) D = omega (arith, D .each 0, over-small r B (held r B y d) ds (demands-tail D))
+
+-- Each byte of the order is one: a demand of it has 16 bits.
+pub trial-below : (room : ℕ) (b : Bucket) (bs : List ℕ) → Bytes bs → Below (onFigures length (trialIn room b bs))
+unfolding trialFigures
+trial-below room b bs bytes n e =
+    let g = on-figures length (trialIn room b bs) e in
+    let a = then-found (ordered traceLimit bs) _ (g .1) in
+    let x = a .0 in
+    let f = x .order .tariff .factor in
+    let p = is-ordered traceLimit bs x (a .1) in
+    let t = then-found (trialOf b f (x .demands)) _ (a .2) in
+    let u = weigh-figures (periodsOk (length (x .demands))) 3 _ (t .1) in
+    let v = weigh-figures (freshOk b f) 5 (figures (trialFigures b f (x .demands))) (u .1) in
+    let w = fresh-range b f (v .0) in
+    let D : Demands (x .demands) = subst Demands (sym (sym (spread-demands p) ∙ order-demands bs (x .order) (p .read))) (file-demands bs bytes) in
+    let y = startOf (f .p) (f .q) (b .depth .0) in
+    let s = spare-small (b .rate .0) (b .depth .0) y (x .demands) (depthLimit + rateLimit) (omega (arith, w .bucket .rates, w .bucket .depths)) (omega arith) (start-le (f .p) (f .q) (b .depth .0) (w .factor .part)) D in
+    let o = over-small (b .rate .0) (b .depth .0) y (x .demands) D in
+    let is = same-figures (v .1) in
+    let line = trialLine (t .0 .spare) (t .0 .over) in
+    let c = weigh-figures (leb (length line) room) 6 (figures line) (t .2) in
+    let short = trial-short (t .0 .spare) (t .0 .over) (subst (λ (z : TrialFigures). natAbs (z .spare) ≤ 2 ^ 63) is (omega (arith, s))) (subst (λ (z : TrialFigures). z .over < 2 ^ 32) is (omega (arith, o, periods-range (length (x .demands)) (u .0) .few))) in
+    omega (arith, ap length (same-figures (c .1)), short, g .2)
 
 pub single-below : (room : ℕ) (bs : List ℕ) → Below (onFigures length (singleIn room bs))
 single-below room bs n e =

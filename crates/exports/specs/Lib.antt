@@ -4,3 +4,4 @@ pub mod OrderLaws
 pub mod PlanLaws
 pub mod MeterLaws
 pub mod FigureLaws
+pub mod BookLaws

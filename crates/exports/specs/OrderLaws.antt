@@ -13,7 +13,7 @@ use Rattle.terms.specs.Ranges.{periodsOk}
 use Rattle.encoding.specs.FillLaws.{Fills, fill-refused}
 use Rattle.order_file.specs.declared.orders.Order.{Order}
 use Rattle.order_file.specs.Order.{writeOrder}
-use Rattle.order_file.specs.Ordered.{Ordered, ordered, SpreadsOrder}
+use Rattle.order_file.specs.Ordered.{ordered, SpreadsOrder}
 use Rattle.order_file.specs.OrderedLaws.{found-order, demands-are}
 use Rattle.typed_figures.specs.Figures.{tariffFigures, tariffOf}
 use Rattle.exports.specs.Answers.{orderFrom}

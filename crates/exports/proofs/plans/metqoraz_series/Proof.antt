@@ -1,5 +1,5 @@
 -- The lists are as long as any order needs; the cost is that of the plan found.
-use mathlib.Core.Path.{sym, ap, _∙_}
+use mathlib.Core.Path.{ap, _∙_}
 use Rattle.planning.specs.Planning.{plannedSays}
 use Rattle.text.specs.FittedLaws.{long}
 use Rattle.exports.specs.Answers.{coded}
