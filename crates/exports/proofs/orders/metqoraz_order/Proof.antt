@@ -2,6 +2,7 @@
 use native.Mathlib.Omega.{arith}
 use mathlib.Core.Path.{ap, _∙_}
 use borrow.Author.Tests.{eq-eqb, ne-eqb}
+use lib.ListN.{length}
 use Rattle.terms.specs.Bools.{check-passed, check-failed}
 use Rattle.exports.specs.Answers.{coded}
 use Rattle.exports.specs.OrderLaws.{order-periods, order-figures, order-written}
@@ -28,7 +29,7 @@ returns-2 : tie.Need-returns-2
 returns-2 c =
     let o = c .before .before in
     let s = o .before .before .before .before .before .args in
-    let k = order-figures (s .figures .now) (s .demands .now) (s .bytes .now) (check-passed (o .before .periods-in-range .ensures) (o .if1 .left)) (ne-eqb _ _ (c .before .if2 .taken)) in
+    let k = order-figures (s .figures .now) (s .demands .now) (s .bytes .now) (check-passed (o .before .periods-in-range .ensures) (o .if1 .left)) (ne-eqb (length (s .figures .now)) 7 (c .before .if2 .taken)) in
     (c .coded-refusal2 .ensures ∙ ap coded (k .0), k .1)
 
 tariff-of-requires : tie.Need-tariff-of-requires
@@ -49,7 +50,7 @@ returns-3 c =
     let t = w .before .before in
     let o = t .before .before in
     let s = o .before .before .before .before .before .args in
-    let k = order-written (s .figures .now) (s .demands .now) (s .bytes .now) (check-passed (o .before .periods-in-range .ensures) (o .if1 .left)) (eq-eqb _ _ (t .before .if2 .left))
+    let k = order-written (s .figures .now) (s .demands .now) (s .bytes .now) (check-passed (o .before .periods-in-range .ensures) (o .if1 .left)) (eq-eqb (length (s .figures .now)) 7 (t .before .if2 .left))
     _ _ (rw (t .tariff-of .ensures) at (w .write-order .ensures)) in
     (c .coded-fill .ensures ∙ ap coded (k .0), k .1)
 
