@@ -1,0 +1,24 @@
+-- The answer of the call below, as one number.
+use mathlib.Core.Path.{ap, _∙_}
+use Rattle.exports.specs.Answers.{coded}
+use borrow.Author.Needs.{needs}
+use Rattle.exports.proofs.texts.metqoraz_single.Statement.{statement}
+use Rattle.exports.proofs.texts.metqoraz_single.Tie as tie
+
+single-line-requires : tie.Need-single-line-requires
+single-line-requires c κs = search needs
+
+coded-fill-requires : tie.Need-coded-fill-requires
+coded-fill-requires c κs = search needs
+
+same-length : tie.Need-same-length
+same-length c = search needs
+
+returns : tie.Need-returns
+returns c =
+    let e = c .before .before .before .single-line .ensures in
+    (c .coded-fill .ensures ∙ ap coded (e .0), e .1)
+
+pub metqoraz-single-spec : {M : Type 1} → statement M
+metqoraz-single-spec =
+    tie.close (tie.spec single-line-requires coded-fill-requires same-length returns)

@@ -1,0 +1,215 @@
+-- Every figure that is answered is below 10^18, so that the number answered tells figures from refusals: no two answers share
+-- one.
+-- Assumes nothing.
+use Prim.Native.Nat.{ℕ, suc, _+_, _*_, _≤_, _<_, _-_, _^_}
+use native.Mathlib.Omega.{arith}
+use mathlib.Core.Path.{_≡_, refl, sym, ap, subst, _∙_}
+use mathlib.Core.Bool.{Bool, true, false, cond}
+use mathlib.Core.List.{List, [], _∷_}
+use borrow.Author.Tests.{ltb-true}
+use lib.Dec.{eqb, leb, ltb}
+use lib.IntN.{ℤ, pos, negsuc, natAbs}
+use lib.ListN.{length, length-append}
+use lib.Signed.{leZ}
+use Rattle.terms.specs.declared.Bucket.{Bucket}
+use Rattle.terms.specs.declared.Factor.{Factor}
+use Rattle.terms.specs.Answer.{Answer, figures, refused, onFigures}
+use Rattle.terms.specs.AnswerLaws.{same-figures, weigh-figures, on-figures, then-found}
+use Rattle.terms.specs.Limits.{demandLimit, depthLimit, meterLimit, rateLimit, traceLimit}
+use Rattle.terms.specs.Ranges.{freshOk, periodsOk, tariffOk}
+use Rattle.terms.specs.RangeLaws.{fresh-range, periods-range}
+use Rattle.terms.specs.Records.{Each}
+use Rattle.bucket.specs.Laws.{demands-tail, start-le, sub-is}
+use Rattle.bucket.specs.declared.trials.TrialFigures.{TrialFigures}
+use Rattle.bucket.specs.Step.{held, startOf}
+use Rattle.bucket.specs.Trace.{Demands, gap, gaps, leastOf, minZ, overAll, spareFrom, sumOf}
+use Rattle.bucket.specs.Trial.{trialFigures, trialOf}
+use Rattle.meter.specs.declared.meters.Meter.{Meter}
+use Rattle.meter.specs.Meter.{freshMeter, meterOk, offerOf, offersOf, openOf, recordAfter}
+use Rattle.depth.specs.DepthLaws.{depth-found}
+use Rattle.single.specs.Single.{singleOf}
+use Rattle.series.specs.OutlineLaws.{carried-below, carried-cost, carried-count}
+use Rattle.series.specs.Series.{trueCost}
+use Rattle.encoding.specs.NumberLaws.{Bytes}
+use Rattle.order_file.specs.Order.{orderLength, writeOrder}
+use Rattle.order_file.specs.OrderRules.{length-order}
+use Rattle.order_file.specs.Ordered.{ordered}
+use Rattle.order_file.specs.OrderedLaws.{is-ordered, ordered-count, ordered-range, spread-demands}
+use Rattle.plan_file.specs.Plan.{fitting, planIn, readPlan}
+use Rattle.plan_file.specs.Plan as plan
+use Rattle.plan_file.specs.PlanRules.{length-plan, read-rules, write-rules}
+use Rattle.planning.specs.Planning.{Planned, planned}
+use Rattle.planning.specs.PlannedLaws.{is-planned, planned-cheapest}
+use Rattle.booking.specs.Booking.{planFigures}
+use Rattle.booking.specs.BookingLaws.{file-demands, order-demands}
+use Rattle.services.specs.Services.{singleIn, trialIn}
+use Rattle.services.specs.ServiceLaws.{priced-short}
+use Rattle.sheets.specs.LengthLaws.{plan-line-short, runs-short}
+use Rattle.sheets.specs.Sheet.{runLines, sheetIn, sheetText}
+use Rattle.text.specs.Lines.{planLine, singleLine, trialLine}
+use Rattle.text.specs.LineLaws.{trial-short}
+use Rattle.typed_figures.specs.Figures.{tariffFigures, tariffOf}
+use Rattle.exports.specs.Answers.{refusedFrom, coded, orderFrom, depthIn, costIn, planFileIn, meterIn}
+
+-- The figures of an answer are below the refusals.
+abbrev pub Below : Answer ℕ → Type 0
+Below a = (n : ℕ) → a ≡ figures n → n < refusedFrom
+
+pub told-apart : (a b : Answer ℕ) → Below a → Below b → coded a ≡ coded b → a ≡ b
+told-apart (figures m) (figures n) h k e = ap figures e
+told-apart (figures m) (refused n) h k e = absurd (omega (arith, h m refl, e))
+told-apart (refused m) (figures n) h k e = absurd (omega (arith, k n refl, e))
+told-apart (refused m) (refused n) h k e = let z : m ≡ n = omega (arith, e) in ap refused z
+
+-- ---- Orders
+
+pub order-below : (room : ℕ) (fs ds : List ℕ) → Below (onFigures length (orderFrom room fs ds))
+unfolding orderFrom writeOrder
+order-below room fs ds n e =
+    let g = on-figures length (orderFrom room fs ds) e in
+    let a = weigh-figures (periodsOk (length ds)) 3 _ (g .1) in
+    let b = weigh-figures (eqb (length fs) tariffFigures) 5 _ (a .1) in
+    let c = weigh-figures (periodsOk (length ds)) 3 _ (b .1) in
+    let d = weigh-figures (tariffOk (tariffOf fs)) 5 _ (c .1) in
+    let f = weigh-figures (leb (orderLength (length ds)) room) 6 _ (d .1) in
+    omega (arith, ap length (same-figures (f .1)), length-order (length ds) (tariffOf fs) ds, g .2, periods-range (length ds) (a .0) .few)
+
+pub depth-below : (r : ℕ) (bs : List ℕ) → Below (depthIn r bs)
+depth-below r bs n e =
+    let g = then-found (ordered traceLimit bs) _ e in
+    let t = ordered-range (is-ordered traceLimit bs (g .0) (g .1)) .1 in
+    omega (arith, depth-found (g .0 .order .tariff) r (g .0 .demands) (g .2) .within, t .depth-caps)
+
+-- ---- Texts
+
+gap-small : (r y d k : ℕ) → y + r ≤ k → d ≤ k → natAbs (gap r y d) ≤ k
+gap-small r y d k h l = rw (sub-is (y + r) d) (go (ltb (y + r) d) refl)
+  where
+    go : (b : Bool) → ltb (y + r) d ≡ b → natAbs (cond b (negsuc (d - suc (y + r))) (pos (y + r - d))) ≤ k
+    go true e = omega (arith, ltb-true)
+    go false e = omega arith
+
+gaps-small : (r B y : ℕ) (ds : List ℕ) (k : ℕ) → B + r ≤ k → demandLimit ≤ k → y ≤ B → Demands ds → Each (λ x. natAbs x ≤ k) (gaps r B y ds)
+unfolding gaps
+gaps-small r B y [] k h l m D = tt
+gaps-small r B y (d ∷ ds) k h l m D =
+    (gap-small r y d k (omega arith) (omega (arith, D .each 0)), gaps-small r B (held r B y d) ds k h l (omega arith) (demands-tail D))
+
+least-small : (k : ℕ) (z : ℤ) (xs : List ℤ) → natAbs z ≤ k → Each (λ x. natAbs x ≤ k) xs → natAbs (leastOf z xs) ≤ k
+unfolding leastOf
+least-small k z [] h a = h
+least-small k z (x ∷ xs) h a = least-small k (minZ z x) xs (go (leZ z x)) (a .1)
+  where
+    go : (b : Bool) → natAbs (cond b z x) ≤ k
+    go true = h
+    go false = a .0
+
+spare-small : (r B y : ℕ) (ds : List ℕ) (k : ℕ) → B + r ≤ k → demandLimit ≤ k → y ≤ B → Demands ds → natAbs (spareFrom r B y ds) ≤ k
+unfolding spareFrom gaps
+spare-small r B y [] k h l m D = omega arith
+spare-small r B y (d ∷ ds) k h l m D = let a = gaps-small r B y (d ∷ ds) k h l m D in least-small k (gap r y d) (gaps r B (held r B y d) ds) (a .0) (a .1)
+
+over-small : (r B y : ℕ) (ds : List ℕ) → Demands ds → overAll r B y ds ≤ demandLimit * length ds
+unfolding sumOf
+over-small r B y [] D = omega arith
+over-small r B y (d ∷ ds) D = omega (arith, D .each 0, over-small r B (held r B y d) ds (demands-tail D))
+
+-- Each byte of the order is one: a demand of it has 16 bits.
+pub trial-below : (room : ℕ) (b : Bucket) (bs : List ℕ) → Bytes bs → Below (onFigures length (trialIn room b bs))
+unfolding trialFigures
+trial-below room b bs bytes n e =
+    let g = on-figures length (trialIn room b bs) e in
+    let a = then-found (ordered traceLimit bs) _ (g .1) in
+    let x = a .0 in
+    let f = x .order .tariff .factor in
+    let p = is-ordered traceLimit bs x (a .1) in
+    let t = then-found (trialOf b f (x .demands)) _ (a .2) in
+    let u = weigh-figures (periodsOk (length (x .demands))) 3 _ (t .1) in
+    let v = weigh-figures (freshOk b f) 5 (figures (trialFigures b f (x .demands))) (u .1) in
+    let w = fresh-range b f (v .0) in
+    let D : Demands (x .demands) = subst Demands (sym (sym (spread-demands p) ∙ order-demands bs (x .order) (p .read))) (file-demands bs bytes) in
+    let y = startOf (f .p) (f .q) (b .depth .0) in
+    let s = spare-small (b .rate .0) (b .depth .0) y (x .demands) (depthLimit + rateLimit) (omega (arith, w .bucket .rates, w .bucket .depths)) (omega arith) (start-le (f .p) (f .q) (b .depth .0) (w .factor .part)) D in
+    let o = over-small (b .rate .0) (b .depth .0) y (x .demands) D in
+    let is = same-figures (v .1) in
+    let line = trialLine (t .0 .spare) (t .0 .over) in
+    let c = weigh-figures (leb (length line) room) 6 (figures line) (t .2) in
+    let short = trial-short (t .0 .spare) (t .0 .over) (subst (λ (z : TrialFigures). natAbs (z .spare) ≤ 2 ^ 63) is (omega (arith, s))) (subst (λ (z : TrialFigures). z .over < 2 ^ 32) is (omega (arith, o, periods-range (length (x .demands)) (u .0) .few))) in
+    omega (arith, ap length (same-figures (c .1)), short, g .2)
+
+pub single-below : (room : ℕ) (bs : List ℕ) → Below (onFigures length (singleIn room bs))
+single-below room bs n e =
+    let g = on-figures length (singleIn room bs) e in
+    let a = then-found (ordered traceLimit bs) _ (g .1) in
+    let b = then-found (singleOf (a .0 .order .tariff) (a .0 .demands)) _ (a .2) in
+    let line = singleLine (b .0 .bucket) (b .0 .cost) in
+    let c = weigh-figures (leb (length line) room) 6 (figures line) (b .2) in
+    let r = ordered-range (is-ordered traceLimit bs (a .0) (a .1)) in
+    omega (arith, ap length (same-figures (c .1)), priced-short _ _ (b .0) (r .1) (r .0 .few) (b .1), g .2)
+
+sheet-short : (bs : List ℕ) (x : Planned) → planned traceLimit traceLimit bs ≡ figures x → length (sheetText x) ≤ 16413
+sheet-short bs x e =
+    let p = is-planned traceLimit traceLimit bs x e in
+    let r = ordered-range (p .as-ordered) in
+    let t = x .order .tariff in
+    let c = planned-cheapest p .carried in
+    let few = carried-count t c in
+    let n : x .order .periods ≡ length (x .demands) = sym (ordered-count (p .as-ordered)) in
+    let first = planLine (x .order .periods) (length (x .cutting)) (trueCost t (x .cutting)) in
+    let lines = runLines (t .factor) 1 (x .demands) (x .cutting) in
+    let short = plan-line-short (x .order .periods) (length (x .cutting)) (trueCost t (x .cutting)) (omega (arith, n, r .0 .few)) (omega (arith, few, r .0 .few)) (omega (arith, carried-cost t (r .1) c, r .0 .few)) in
+    omega (arith, length-append first lines, short, runs-short t (r .1) c 1 (omega (arith, r .0 .few)), few, r .0 .few)
+
+pub sheet-below : (room : ℕ) (bs : List ℕ) → Below (onFigures length (sheetIn room bs))
+sheet-below room bs n e =
+    let g = on-figures length (sheetIn room bs) e in
+    let a = then-found (planned traceLimit traceLimit bs) _ (g .1) in
+    let c = weigh-figures (leb (length (sheetText (a .0))) room) 6 (figures (sheetText (a .0))) (a .2) in
+    omega (arith, ap length (same-figures (c .1)), sheet-short bs (a .0) (a .1), g .2)
+
+-- ---- Plans
+
+pub cost-below : (bs : List ℕ) → Below (costIn bs)
+cost-below bs n e =
+    let g = on-figures _ (planned traceLimit traceLimit bs) e in
+    let p = is-planned traceLimit traceLimit bs (g .0) (g .1) in
+    let r = ordered-range (p .as-ordered) in
+    omega (arith, carried-below (g .0 .order .tariff) (r .1) (r .0 .few) (planned-cheapest p .carried), g .2)
+
+pub file-below : (room : ℕ) (bs : List ℕ) → Below (onFigures length (planFileIn room bs))
+file-below room bs n e =
+    let g = on-figures length (planFileIn room bs) e in
+    let a = then-found (planned traceLimit traceLimit bs) _ (g .1) in
+    let x = planFigures (a .0) in
+    let w = write-rules traceLimit room x (a .0 .cutting) (g .0) (a .2) in
+    omega (arith, ap length (w .is), length-plan (x .periods) (x .cost) (a .0 .cutting), w .list, g .2)
+
+pub plan-below : (room : ℕ) (bs : List ℕ) → Below (onFigures (λ x. x .cost) (readPlan room bs))
+plan-below room bs n e =
+    let g = on-figures (λ x. x .cost) (readPlan room bs) e in
+    let a = then-found (planIn bs) (fitting room) (g .1) in
+    let w = weigh-figures (leb (length (a .0 .buckets)) room) 6 (figures (a .0)) (a .2) in
+    let r = read-rules bs (a .0) (a .1) in
+    omega (arith, g .2, ap (λ (x : plan.Recorded). x .cost) (same-figures (w .1)), ap (λ (x : plan.Recorded). x .cost) (r .1), r .0 .cost)
+
+-- ---- Meters
+
+offers-few : (m m′ : Meter) (ds : List ℕ) → m .periods ≤ meterLimit → offersOf m ds ≡ figures m′ → m′ .periods ≤ meterLimit
+unfolding offersOf offerOf
+offers-few m m′ [] l e = omega (arith, l, ap (λ (x : Meter). x .periods) (same-figures e))
+offers-few m m′ (d ∷ ds) l e =
+    let a = then-found (offerOf m d) _ e in
+    let b = weigh-figures (meterOk m) 8 _ (a .1) in
+    let c = weigh-figures (ltb (m .periods) meterLimit) 9 _ (b .1) in
+    offers-few (recordAfter m (figures (a .0))) m′ ds (omega (arith, ltb-true (m .periods) meterLimit (c .0))) (a .2)
+
+pub meter-below : (room : ℕ) (b : Bucket) (f : Factor) (ds : List ℕ) → Below (onFigures (λ m. m .periods) (meterIn room b f ds))
+unfolding meterIn
+meter-below room b f ds n e =
+    let g = on-figures (λ m. m .periods) (meterIn room b f ds) e in
+    let a = weigh-figures (freshOk b f) 5 _ (g .1) in
+    let c = weigh-figures (leb 5 room) 6 _ (a .1) in
+    let d = then-found (openOf b f) (λ m. offersOf m ds) (c .1) in
+    let h = weigh-figures (freshOk b f) 5 (figures (freshMeter b f)) (d .1) in
+    let z : d .0 .periods ≡ 0 = ap (λ (m : Meter). m .periods) (sym (same-figures (h .1))) in
+    omega (arith, offers-few (d .0) (g .0) ds (omega (arith, z)) (d .2), g .2)

@@ -1,0 +1,7 @@
+-- The definitions that contracts cite, and their laws.
+pub mod Answers
+pub mod OrderLaws
+pub mod PlanLaws
+pub mod MeterLaws
+pub mod FigureLaws
+pub mod BookLaws

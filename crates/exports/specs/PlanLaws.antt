@@ -1,0 +1,161 @@
+-- Calls that begin with planning an order, and a plan file read into lists of the caller's.
+-- Assumes nothing.
+use Prim.Native.Nat.{ℕ, _≤_}
+use native.Mathlib.Omega.{arith}
+use mathlib.Core.Path.{_≡_, sym, ap, subst, _∙_}
+use mathlib.Core.List.{List, map}
+use lib.ListN.{length, take, drop, length-append, length-map}
+use lib.Seq.{sets}
+use Rattle.terms.specs.declared.BucketRecord.{BucketRecord}
+use Rattle.terms.specs.Answer.{Answer, figures, refused, onFigures}
+use Rattle.terms.specs.AnswerLaws.{on-figures, on-refused, then-figures, then-refused}
+use Rattle.terms.specs.LentLaws.{filled-front}
+use Rattle.terms.specs.Limits.{traceLimit}
+use Rattle.terms.specs.Records.{Cutting, runLength, runRate, runDepth}
+use Rattle.encoding.specs.FillLaws.{Fills, fill-refused}
+use Rattle.encoding.specs.StoreLaws.{sets-front}
+use Rattle.series.specs.Series.{trueCost}
+use Rattle.record_list.specs.Lists.{RecordLists, Filled, counted, recordsOf, recorded, roomOf}
+use Rattle.record_list.specs.ListLaws.{Rooms, rooms, lists-hold, lists-kept}
+use Rattle.plan_file.specs.declared.plans.PlanFigures.{PlanFigures}
+use Rattle.plan_file.specs.Plan.{Recorded, bucketsOf, figuresOf, planFile, readPlan}
+use Rattle.plan_file.specs.CallLaws.{count-fits}
+use Rattle.planning.specs.declared.orders.PlannedOrder.{PlannedOrder}
+use Rattle.planning.specs.Planning.{Planned, planned, plannedFigures}
+use Rattle.planning.specs.CallLaws.{PlansOrder, found-plan, plan-is}
+use Rattle.booking.specs.Booking.{planFigures}
+use Rattle.exports.specs.Answers.{coded, costIn, planFileIn}
+
+-- ---- An order planned, in as many entries as any order needs
+
+-- The figures of the plan found for an order.
+abbrev pub figuresFor : PlannedOrder → PlanFigures
+figuresFor y = record { periods = y .order .periods; buckets = y .plan .buckets; cost = y .plan .cost }
+
+module _ (bs demands : List ℕ) (plan : RecordLists) (demands′ : List ℕ) (plan′ : RecordLists)
+    (found : Answer PlannedOrder) (p : PlansOrder bs demands traceLimit plan demands′ plan′ found) (size : length demands ≡ traceLimit) where
+  sized : planned traceLimit traceLimit bs ≡ planned (length demands) traceLimit bs
+  sized = sym (ap (λ (n : ℕ). planned n traceLimit bs) size)
+
+  unplanned : (n : ℕ) → found ≡ refused n → planned traceLimit traceLimit bs ≡ refused n
+  unplanned n f = sized ∙ on-refused plannedFigures (planned (length demands) traceLimit bs) (sym (p .answers) ∙ f)
+
+  pub cost-refused : (n : ℕ) → found ≡ refused n → refused n ≡ costIn bs
+  cost-refused n f = sym (ap (onFigures (λ x. trueCost (x .order .tariff) (x .cutting))) (unplanned n f))
+
+  pub file-refused : (n : ℕ) → found ≡ refused n → (old : List ℕ) → Fills (planFileIn (length old) bs) old (refused n) old
+  file-refused n f old = fill-refused (planFileIn (length old) bs) old n (sym (then-refused (planned traceLimit traceLimit bs) _ (unplanned n f)))
+
+  module _ (y : PlannedOrder) (f : found ≡ figures y) where
+    abbrev found-here : (x : Planned) × (planned (length demands) traceLimit bs ≡ figures x) × (plannedFigures x ≡ y)
+    found-here = found-plan bs demands traceLimit plan demands′ plan′ found p y f
+
+    abbrev x : Planned
+    x = found-here .0
+
+    planned-is : planned traceLimit traceLimit bs ≡ figures x
+    planned-is = sized ∙ found-here .1
+
+    pub cost-found : figures (y .plan .cost) ≡ costIn bs
+    cost-found =
+        ap (λ (z : PlannedOrder). figures (z .plan .cost)) (sym (found-here .2))
+        ∙ sym (ap (onFigures (λ x. trueCost (x .order .tariff) (x .cutting))) planned-is)
+
+    -- the records at the front of the lists are the cutting
+    records-are : recordsOf (y .plan .buckets) (plan′ .runs) (plan′ .rates) (plan′ .depths) ≡ x .cutting
+    records-are =
+        ap (λ (z : PlannedOrder). recordsOf (z .plan .buckets) (plan′ .runs) (plan′ .rates) (plan′ .depths)) (sym (found-here .2))
+        ∙ lists-hold (x .cutting) plan plan′ (plan-is bs demands traceLimit plan demands′ plan′ found p y f)
+
+    -- a file written from the lists is the definition's
+    pub file-found : (old new : List ℕ) (r : Answer ℕ)
+        → Fills (planFile traceLimit (length old) (figuresFor y) (recordsOf (y .plan .buckets) (plan′ .runs) (plan′ .rates) (plan′ .depths))) old r new
+        → Fills (planFileIn (length old) bs) old r new
+    file-found old new r k =
+        let file : PlannedOrder → Cutting → Answer (List ℕ) = λ z xs. planFile traceLimit (length old) (figuresFor z) xs in
+        let e : file y (recordsOf (y .plan .buckets) (plan′ .runs) (plan′ .rates) (plan′ .depths)) ≡ planFileIn (length old) bs =
+        ap (file y) records-are ∙ ap (λ (z : PlannedOrder). file z (x .cutting)) (sym (found-here .2))
+        ∙ then-figures (planned traceLimit traceLimit bs) (λ z. planFile traceLimit (length old) (planFigures z) (z .cutting)) planned-is in
+        subst (λ (a : Answer (List ℕ)). Fills a old r new) e k
+
+-- ---- A plan read
+
+module _ (bs : List ℕ) (old new : RecordLists) where
+  abbrev reading : Answer Recorded
+  reading = readPlan (roomOf (old .runs) (old .rates) (old .depths)) bs
+
+  -- r is answered, and the caller's lists hold the records.
+  abbrev pub ReadsCoded : ℕ → Type 0
+  ReadsCoded r = (r ≡ coded (onFigures (λ x. x .cost) reading)) × Filled (bucketsOf reading) old new
+
+-- What was read with just so much room, into lists of this crate's own.
+module _ (bs : List ℕ) (old : RecordLists) (room : ℕ) (size : room ≡ roomOf (old .runs) (old .rates) (old .depths))
+    (answer : Answer PlanFigures) (says : answer ≡ figuresOf (readPlan room bs)) where
+  read-as : answer ≡ figuresOf (reading bs old old)
+  read-as = says ∙ ap (λ (n : ℕ). figuresOf (readPlan n bs)) size
+
+  pub plan-unread : (n : ℕ) → answer ≡ refused n → (r : ℕ) → r ≡ coded (refused n) → ReadsCoded bs old old r
+  plan-unread n f r e =
+      let g : reading bs old old ≡ refused n = on-refused _ (reading bs old old) (sym read-as ∙ f) in
+      (e ∙ sym (ap (λ (a : Answer Recorded). coded (onFigures (λ x. x .cost) a)) g), lists-kept (bucketsOf (reading bs old old)) old n (ap bucketsOf g))
+
+  module _ (y : PlanFigures) (f : answer ≡ figures y) where
+    found : (x : Recorded) × (reading bs old old ≡ figures x) × (record { periods = x .periods; buckets = length (x .buckets); cost = x .cost } ≡ y)
+    found = on-figures _ (reading bs old old) (sym read-as ∙ f)
+
+    abbrev xs : Cutting
+    xs = found .0 .buckets
+
+    count-is : length xs ≡ y .buckets
+    count-is = ap (λ (z : PlanFigures). z .buckets) (found .2)
+
+    few : (length xs ≤ roomOf (old .runs) (old .rates) (old .depths)) × (length xs ≤ traceLimit)
+    few = count-fits _ bs (length xs) (sym (ap (λ (a : Answer Recorded). counted length (bucketsOf a)) (found .1)))
+
+    pub buckets-room : Rooms (y .buckets) (old .runs) (old .rates) (old .depths)
+    buckets-room = rooms _ (old .runs) (old .rates) (old .depths) (subst (λ (n : ℕ). n ≤ roomOf (old .runs) (old .rates) (old .depths)) count-is (few .0))
+
+    module _ (zeros mid : RecordLists) (fills : Filled (bucketsOf (readPlan room bs)) zeros mid) where
+      filled-here : Filled (figures xs) zeros mid
+      filled-here =
+          subst (λ (a : Answer Cutting). Filled a zeros mid) (ap (λ (n : ℕ). bucketsOf (readPlan n bs)) size ∙ ap bucketsOf (found .1)) fills
+
+      inside : (figure : BucketRecord → ℕ) (zero from : List ℕ) → from ≡ recorded figure (figures xs) zero → y .buckets ≤ length from
+      inside figure zero from e = omega (arith, ap length e, length-append (map figure xs) (drop (length (map figure xs)) zero), length-map xs figure, count-is)
+
+      pub read-inside : Rooms (y .buckets) (mid .runs) (mid .rates) (mid .depths)
+      read-inside =
+          let g = filled-here in
+          record {
+            first = inside runLength (zeros .runs) (mid .runs) (g .0);
+            second = inside runRate (zeros .rates) (mid .rates) (g .1 .0);
+            third = inside runDepth (zeros .depths) (mid .depths) (g .1 .1);
+          }
+
+      -- the front of one list, stored at the front of the caller's
+      stored : (figure : BucketRecord → ℕ) (zero from to to′ : List ℕ) → from ≡ recorded figure (figures xs) zero → y .buckets ≤ length to
+          → to′ ≡ sets to 0 (take (y .buckets) from) → to′ ≡ recorded figure (figures xs) to
+      stored figure zero from to to′ e l s =
+          let n : length (map figure xs) ≡ y .buckets = length-map xs figure ∙ count-is in
+          let g : take (y .buckets) from ≡ map figure xs =
+          ap (take (y .buckets)) e ∙ ap (λ (k : ℕ). take k (recorded figure (figures xs) zero)) (sym n) ∙ filled-front (map figure xs) zero in
+          s ∙ ap (sets to 0) g ∙ sets-front (map figure xs) to (omega (arith, n, l))
+
+      pub plan-read : (new : RecordLists)
+          → new .runs ≡ sets (old .runs) 0 (take (y .buckets) (mid .runs))
+          → new .rates ≡ sets (old .rates) 0 (take (y .buckets) (mid .rates))
+          → new .depths ≡ sets (old .depths) 0 (take (y .buckets) (mid .depths))
+          → ReadsCoded bs old new (y .cost)
+      plan-read new a b c =
+          let r = buckets-room in
+          let g = filled-here in
+          let all : Filled (figures xs) old new = (
+            stored runLength (zeros .runs) (mid .runs) (old .runs) (new .runs) (g .0) (r .first) a,
+            (
+              stored runRate (zeros .rates) (mid .rates) (old .rates) (new .rates) (g .1 .0) (r .second) b,
+              stored runDepth (zeros .depths) (mid .depths) (old .depths) (new .depths) (g .1 .1) (r .third) c,
+            ),
+          ) in (
+            ap (λ (z : PlanFigures). z .cost) (sym (found .2)) ∙ sym (ap (λ (a : Answer Recorded). coded (onFigures (λ x. x .cost) a)) (found .1)),
+            subst (λ (a : Answer Cutting). Filled a old new) (sym (ap bucketsOf (found .1))) all,
+          )

@@ -1,0 +1,29 @@
+// An answer as one number. Public only for this crate's calls.
+use encoding::FillAnswer;
+use terms::Refusal;
+use terms::number_of;
+ghost use mathlib.Core.Path.{_≡_};
+ghost use Rattle.terms.specs.Answer.{refused};
+ghost use Rattle.terms.specs.Refusals.{numberOf};
+ghost use Rattle.encoding.specs.Fill.{fillSays};
+ghost use Rattle.exports.specs.Answers.{coded};
+
+// A refusal is this and its number. Every figure that is answered is below it.
+pub const REFUSED: u64 = 1_000_000_000_000_000_000;
+
+// The number of a refusal.
+pub fn coded_refusal(why: Refusal) -> u64
+    ensures { λ r. ⌜ r ≡ coded (refused (numberOf why)) ⌝ }
+{
+    REFUSED + number_of(why) as u64
+}
+
+// The number of an answer that fills something lent: how many entries, or the refusal.
+pub fn coded_fill(answer: FillAnswer) -> u64
+    ensures { λ r. ⌜ r ≡ coded (fillSays answer) ⌝ }
+{
+    match answer {
+        FillAnswer::Filled(n) => n as u64,
+        FillAnswer::Refused(why) => coded_refusal(why),
+    }
+}

@@ -1,0 +1,117 @@
+//! The product against the paper: the lines of trials and of single buckets, and the printed sheet.
+
+mod shared;
+
+use metqoraz::calls;
+use metqoraz::inputs::{bucket, Seed};
+use metqoraz::paper::sheet::{sheet, single_line, trial_line};
+use metqoraz::paper::terms::Bucket;
+use metqoraz::paper::Answer;
+use shared::{
+    any_file, any_order, any_trace, compare_filled, file_of, for_seeds, printed_case, said, same, small_order, Tally,
+};
+
+fn compare_trial(file: &[u8], bucket: Bucket, seed: &mut Seed) -> Answer<Vec<u8>> {
+    let right = said(&trial_line(file, bucket));
+    same(&calls::trial(file, bucket).map(String::into_bytes), &right);
+    compare_filled(&right, seed, |text| calls::trial_into(file, bucket, text));
+    right
+}
+
+#[test]
+fn trials_are_alike() {
+    let tally = Tally::default();
+    for_seeds(2_000_000, 100_000, |seed| {
+        let file = any_file(24, seed);
+        tally.count(&compare_trial(&file, bucket(seed), seed));
+    });
+    tally.expect(&[0, 1, 2, 3, 4, 5], 1_000);
+}
+
+#[test]
+fn small_trials_are_alike() {
+    for_seeds(2_200_000, 100_000, |seed| {
+        let file = file_of(&small_order(12, seed));
+        let small = Bucket { rate: seed.between(0, 9), depth: seed.between(0, 25) };
+        compare_trial(&file, small, seed).expect("the figures are in range");
+    });
+}
+
+#[test]
+fn trials_of_long_traces_are_alike() {
+    let tally = Tally::default();
+    for_seeds(2_400_000, 10_000, |seed| {
+        let (tariff, _) = any_order(1, seed);
+        let file = file_of(&(tariff, any_trace(512, seed)));
+        tally.count(&compare_trial(&file, bucket(seed), seed));
+    });
+    tally.expect(&[0, 5], 500);
+}
+
+fn compare_single(file: &[u8], seed: &mut Seed) -> Answer<Vec<u8>> {
+    let right = said(&single_line(file));
+    same(&calls::single(file).map(String::into_bytes), &right);
+    compare_filled(&right, seed, |text| calls::single_into(file, text));
+    right
+}
+
+#[test]
+fn single_buckets_are_alike() {
+    let tally = Tally::default();
+    for_seeds(2_500_000, 8_000, |seed| {
+        let file = any_file(16, seed);
+        tally.count(&compare_single(&file, seed));
+    });
+    tally.expect(&[0, 1, 2, 3, 4, 5, 7], 50);
+}
+
+#[test]
+fn small_single_buckets_are_alike() {
+    let tally = Tally::default();
+    for_seeds(2_600_000, 60_000, |seed| {
+        let file = file_of(&small_order(10, seed));
+        tally.count(&compare_single(&file, seed));
+    });
+    tally.expect(&[0, 7], 10_000);
+}
+
+#[test]
+fn single_buckets_of_long_traces_are_alike() {
+    for_seeds(2_700_000, 60, |seed| {
+        let (tariff, _) = any_order(1, seed);
+        let file = file_of(&(tariff, any_trace(512, seed)));
+        same(&calls::single(&file).map(String::into_bytes), &said(&single_line(&file)));
+    });
+}
+
+#[test]
+fn sheets_are_alike() {
+    let tally = Tally::default();
+    for_seeds(2_800_000, 8_000, |seed| {
+        let file = any_file(10, seed);
+        let right = said(&sheet(&file));
+        same(&calls::sheet(&file).map(String::into_bytes), &right);
+        tally.count(&right);
+    });
+    tally.expect(&[0, 1, 2, 3, 4, 5, 7], 50);
+}
+
+#[test]
+fn small_sheets_are_alike_in_every_room() {
+    let tally = Tally::default();
+    for_seeds(2_900_000, 60_000, |seed| {
+        let file = file_of(&small_order(10, seed));
+        let right = said(&sheet(&file));
+        compare_filled(&right, seed, |text| calls::sheet_into(&file, text));
+        tally.count(&right);
+    });
+    tally.expect(&[0, 7], 10_000);
+}
+
+#[test]
+fn the_printed_case() {
+    let order = file_of(&printed_case());
+    assert_eq!(calls::sheet(&order).as_deref(), Ok("plan 3 2 40\n1 2 0.005 0.004 0.000\n3 3 0.000 0.004 0.000\n"));
+    assert_eq!(calls::single(&order).as_deref(), Ok("single 0.005 0.004 46\n"));
+    assert_eq!(calls::trial(&order, Bucket { rate: 5, depth: 3 }).as_deref(), Ok("trial -0.001 0.001\n"));
+}

@@ -1,0 +1,136 @@
+//! What the comparisons share: runs over seeds, orders of many kinds, and what is lent to a call.
+
+// Each test program uses its own part of this.
+#![allow(dead_code)]
+
+use metqoraz::inputs::{any_tariff, corner_tariff, damaged, small_tariff, trace, Seed, Shape, SHAPES};
+use metqoraz::paper::order::{read_order, trace_of, write_order};
+use metqoraz::paper::terms::Tariff;
+use metqoraz::paper::{Answer, LIST};
+use std::cell::RefCell;
+use std::collections::BTreeMap;
+use std::fmt::Debug;
+use std::panic::{catch_unwind, AssertUnwindSafe};
+
+/// Runs the check for each seed from `base` on, and names the seed that it panics with.
+pub fn for_seeds(base: u64, count: u64, check: impl Fn(&mut Seed)) {
+    for number in base..base + count {
+        let checked = catch_unwind(AssertUnwindSafe(|| check(&mut Seed(number))));
+        assert!(checked.is_ok(), "failing seed: {number}");
+    }
+}
+
+/// A trace of 1 to `longest` periods of any shape, or of demands at the ends of their range.
+pub fn any_trace(longest: u32, seed: &mut Seed) -> Vec<u16> {
+    let periods = seed.between(1, longest) as usize;
+    if seed.once_in(6) {
+        return (0..periods).map(|_| seed.pick([0, 1, 4_095, 4_096, u16::MAX])).collect();
+    }
+    trace(seed.pick(SHAPES), periods, seed)
+}
+
+/// A small tariff and a trace that it may well carry; many costs are equal.
+pub fn small_order(longest: u32, seed: &mut Seed) -> (Tariff, Vec<u16>) {
+    let periods = seed.between(1, longest) as usize;
+    let tariff = small_tariff(seed);
+    (tariff, trace(Shape::Tiny, periods, seed))
+}
+
+/// A tariff and a trace of any kind, with an eye to those at the ends of their ranges.
+pub fn any_order(longest: u32, seed: &mut Seed) -> (Tariff, Vec<u16>) {
+    match seed.between(0, 3) {
+        0 => small_order(longest, seed),
+        1 => (corner_tariff(seed), any_trace(longest, seed)),
+        _ => (any_tariff(seed), any_trace(longest, seed)),
+    }
+}
+
+/// The file of an order whose figures are all in range.
+pub fn file_of(order: &(Tariff, Vec<u16>)) -> Vec<u8> {
+    write_order(&order.0, &order.1).expect("the figures are in range")
+}
+
+/// The file of an order, as often damaged as not.
+pub fn any_file(longest: u32, seed: &mut Seed) -> Vec<u8> {
+    let file = file_of(&any_order(longest, seed));
+    if seed.once_in(2) {
+        damaged(&file, seed)
+    } else {
+        file
+    }
+}
+
+/// What a call of the paper gives for an order's bytes: the refusal of reading them, or what the tariff and the trace
+/// read give.
+pub fn on_order<T>(file: &[u8], call: impl FnOnce(&[u16], &Tariff) -> Answer<T>) -> Answer<T> {
+    let (_, tariff) = read_order(file)?;
+    call(&trace_of(file), &tariff)
+}
+
+/// Entries that a call is lent, each of them any number.
+pub fn lent<T>(entries: usize, seed: &mut Seed, entry: impl Fn(u64) -> T) -> Vec<T> {
+    (0..entries).map(|_| entry(seed.bits())).collect()
+}
+
+/// What a list holds after its front is filled; all of it stays where nothing is to fill it.
+pub fn with_front<T: Clone>(before: &[T], front: &[T]) -> Vec<T> {
+    [front, &before[front.len()..]].concat()
+}
+
+/// A call that fills the front of lent bytes, with the room given: what it answers, and every byte afterwards.
+pub fn compare_in(room: usize, right: &Answer<Vec<u8>>, seed: &mut Seed, call: impl Fn(&mut [u8]) -> Answer<usize>) {
+    let before = lent(room, seed, |bits| bits as u8);
+    let mut bytes = before.clone();
+    let answer = call(&mut bytes);
+    match right {
+        Ok(front) if front.len() <= room => same(&(answer, bytes), &(Ok(front.len()), with_front(&before, front))),
+        Ok(_) => same(&(answer, bytes), &(Err(LIST), before)),
+        Err(number) => same(&(answer, bytes), &(Err(*number), before)),
+    }
+}
+
+/// The same with just enough room, with more, with a byte too few, with many too few, and with none.
+pub fn compare_filled(right: &Answer<Vec<u8>>, seed: &mut Seed, call: impl Fn(&mut [u8]) -> Answer<usize>) {
+    let length = right.as_ref().map_or(40, Vec::len);
+    let rooms = [length, length + seed.between(1, 50) as usize, length.saturating_sub(1), seed.place(length), 0];
+    for room in rooms {
+        compare_in(room, right, seed, &call);
+    }
+}
+
+/// The product's answer and the paper's.
+#[track_caller]
+pub fn same<T: PartialEq + Debug>(product: &T, paper: &T) {
+    assert_eq!(product, paper, "the product on the left, the paper on the right");
+}
+
+/// The case that the paper prints.
+pub fn printed_case() -> (Tariff, Vec<u16>) {
+    let tariff = Tariff { rate_price: 2, depth_price: 1, fee: 4, p: 1, q: 2, rate_cap: 4_095, depth_cap: 1_000_000 };
+    (tariff, vec![4, 8, 2])
+}
+
+/// How often each answer was compared: figures under 0, refusals under their numbers. It shows that the inputs reach them.
+#[derive(Default)]
+pub struct Tally(RefCell<BTreeMap<u32, u32>>);
+
+impl Tally {
+    pub fn count<T>(&self, answer: &Answer<T>) {
+        let number = answer.as_ref().err().copied().unwrap_or(0);
+        *self.0.borrow_mut().entry(number).or_default() += 1;
+    }
+
+    /// Exactly these answers were met, each of them so many times at least.
+    pub fn expect(&self, numbers: &[u32], least: u32) {
+        let met = self.0.borrow();
+        assert!(met.keys().eq(numbers) && met.values().all(|&times| times >= least), "answers met: {met:?}");
+    }
+}
+
+/// What a text says: the bytes, or the number of its refusal line.
+pub fn said(text: &str) -> Answer<Vec<u8>> {
+    match text.strip_prefix("refused ") {
+        None => Ok(text.as_bytes().to_vec()),
+        Some(number) => Err(number.trim_end().parse().expect("a refusal line has a number")),
+    }
+}
