@@ -4,14 +4,14 @@
 mod shared;
 
 use metqoraz::calls;
-use metqoraz::inputs::{bucket, damaged, Seed};
+use metqoraz::inputs::{any_tariff, bucket, damaged, Seed};
 use metqoraz::paper::depth::depth_at;
 use metqoraz::paper::order::{read_order, trace_of};
 use metqoraz::paper::plan::write_plan;
 use metqoraz::paper::series::series_by_trying;
 use metqoraz::paper::sheet::{sheet, single_line, trial_line};
-use metqoraz::paper::Answer;
-use shared::{any_order, compare_in, file_of, for_seeds, lent, on_order, said, same, small_order, Tally};
+use metqoraz::paper::{Answer, PERIODS};
+use shared::{any_order, compare_in, file_of, file_with, for_seeds, lent, on_order, said, same, small_order, Tally};
 
 /// The plan file of the best of all cuttings.
 fn booked(file: &[u8]) -> Answer<Vec<u8>> {
@@ -52,6 +52,17 @@ fn damaged_orders_are_answered_alike() {
         tally.count(&read_order(&bytes));
     });
     tally.expect(&[0, 1, 2, 3, 4, 5], 50);
+}
+
+#[test]
+fn a_t_outside_its_range_is_refused_alike() {
+    for_seeds(4_150_000, 300, |seed| {
+        for periods in [0, 513, 514, 1_024, u32::MAX] {
+            let file = file_with(periods, &any_tariff(seed));
+            assert_eq!(read_order(&file), Err(PERIODS));
+            compare_all(&file, seed);
+        }
+    });
 }
 
 /// Any bytes at all, as short as none.

@@ -9,7 +9,9 @@ use metqoraz::paper::order::{read_order, write_order};
 use metqoraz::paper::terms::{weigh_periods, Tariff};
 use metqoraz::paper::walk::depth_by_walk;
 use metqoraz::paper::{Answer, FIGURE};
-use shared::{any_file, any_order, any_trace, compare_filled, file_of, for_seeds, on_order, same, small_order, Tally};
+use shared::{
+    any_file, any_order, any_trace, compare_filled, file_of, file_with, for_seeds, on_order, same, small_order, Tally,
+};
 
 /// The order that the paper writes from any number of figures: 3 for T, 5 unless there are seven.
 fn order_from(figures: &[u32], demands: &[u16]) -> Answer<Vec<u8>> {
@@ -105,15 +107,6 @@ fn depths_of_long_traces_are_alike() {
         same(&calls::depth(&file, rate), &depth_at(&demands, rate, &tariff));
         same(&calls::depth(&file, rate), &depth_by_walk(&demands, rate, &tariff));
     });
-}
-
-/// The bytes of an order whose header says T, with as many demands as that asks for.
-fn file_with(periods: u32, tariff: &Tariff) -> Vec<u8> {
-    let header = [1, periods, 20, 48, 48u32.wrapping_add(periods.wrapping_mul(2))];
-    let words = header.into_iter().chain(tariff.figures());
-    let mut file: Vec<u8> = words.flat_map(u32::to_le_bytes).collect();
-    file.resize(48 + 2 * periods.min(2_000) as usize, 3);
-    file
 }
 
 #[test]

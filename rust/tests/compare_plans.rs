@@ -8,8 +8,8 @@ use metqoraz::paper::order::{read_order, trace_of};
 use metqoraz::paper::plan::{read_plan, write_plan};
 use metqoraz::paper::series::{series, series_by_trying, series_plain};
 use metqoraz::paper::sheet::sheet;
-use metqoraz::paper::terms::{Bucket, Plan, Record, Tariff, DEPTH_MAX, RATE_MAX};
-use metqoraz::paper::{Answer, LIST};
+use metqoraz::paper::terms::{Bucket, Plan, Record, Tariff, COST_MAX, DEPTH_MAX, RATE_MAX};
+use metqoraz::paper::{Answer, FIGURE, LIST};
 use shared::{
     any_file, compare_filled, file_of, for_seeds, lent, on_order, said, same, small_order, with_front, Tally,
 };
@@ -112,7 +112,7 @@ fn any_plan(seed: &mut Seed) -> (u32, Plan) {
     let longest = seed.pick([1, 3, 20, 512]);
     let count = seed.between(1, longest);
     let mut runs = vec![1; count as usize];
-    for _ in 0..seed.between(0, 512 - count).min(600) {
+    for _ in 0..seed.between(0, 512 - count) {
         let place = seed.place(runs.len());
         runs[place] += 1;
     }
@@ -175,16 +175,27 @@ fn damaged_plans_are_read_alike() {
     tally.expect(&[0, 1, 2, 3, 4, 5], 1_000);
 }
 
+#[test]
+fn costs_at_their_limit_are_read_alike() {
+    for_seeds(3_850_000, 1_000, |seed| {
+        let (periods, plan) = any_plan(seed);
+        let mut file = write_plan(periods, &Plan { cost: COST_MAX, ..plan }).expect("the figures are in range");
+        for cost in [0, COST_MAX - 1, COST_MAX, COST_MAX + 1, u64::MAX] {
+            file[24..32].copy_from_slice(&cost.to_le_bytes());
+            assert_eq!(calls::plan(&file).map(|plan| plan.cost), if cost > COST_MAX { Err(FIGURE) } else { Ok(cost) });
+            compare_read(&file, 512, seed);
+        }
+    });
+}
+
 /// Every figure of a plan at the ends of its range, one at a time.
 #[test]
 fn every_word_of_a_plan_counts_alike() {
     for_seeds(3_900_000, 500, |seed| {
-        let (periods, mut plan) = any_plan(seed);
+        let (_, mut plan) = any_plan(seed);
         plan.records.truncate(4);
-        let file = write_plan(periods, &plan).unwrap_or_else(|_| {
-            let periods = plan.records.iter().map(|record| record.periods).sum();
-            write_plan(periods, &plan).expect("the figures are in range")
-        });
+        let periods = plan.records.iter().map(|record| record.periods).sum();
+        let file = write_plan(periods, &plan).expect("the figures are in range");
         let words: [u32; 12] = [0, 1, 2, 24, 32, 512, 513, 4_095, 4_096, DEPTH_MAX, DEPTH_MAX + 1, u32::MAX];
         for at in (0..file.len()).step_by(4) {
             for word in words {

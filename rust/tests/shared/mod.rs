@@ -20,9 +20,10 @@ pub fn for_seeds(base: u64, count: u64, check: impl Fn(&mut Seed)) {
     }
 }
 
-/// A trace of 1 to `longest` periods of any shape, or of demands at the ends of their range.
+/// A trace of 1 to `longest` periods, often of just so many, of any shape, or of demands at the ends of their range.
 pub fn any_trace(longest: u32, seed: &mut Seed) -> Vec<u16> {
-    let periods = seed.between(1, longest) as usize;
+    let least = if seed.once_in(8) { longest } else { 1 };
+    let periods = seed.between(least, longest) as usize;
     if seed.once_in(6) {
         return (0..periods).map(|_| seed.pick([0, 1, 4_095, 4_096, u16::MAX])).collect();
     }
@@ -48,6 +49,15 @@ pub fn any_order(longest: u32, seed: &mut Seed) -> (Tariff, Vec<u16>) {
 /// The file of an order whose figures are all in range.
 pub fn file_of(order: &(Tariff, Vec<u16>)) -> Vec<u8> {
     write_order(&order.0, &order.1).expect("the figures are in range")
+}
+
+/// The bytes of an order whose header says T, with as many demands as that asks for.
+pub fn file_with(periods: u32, tariff: &Tariff) -> Vec<u8> {
+    let header = [1, periods, 20, 48, 48u32.wrapping_add(periods.wrapping_mul(2))];
+    let words = header.into_iter().chain(tariff.figures());
+    let mut file: Vec<u8> = words.flat_map(u32::to_le_bytes).collect();
+    file.resize(48 + 2 * periods.min(2_000) as usize, 3);
+    file
 }
 
 /// The file of an order, as often damaged as not.
