@@ -6,3 +6,4 @@
 pub mod calls;
 pub mod inputs;
 pub mod paper;
+pub mod pruned;

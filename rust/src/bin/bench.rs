@@ -1,0 +1,135 @@
+//! How fast the product's series, single and sheet are, as ratios in one run: against the plain dynamic programme of
+//! `paper`, and against the product's own algorithm in Rust. Prints the tables of docs/PERFORMANCE.md.
+
+use metqoraz::inputs::{trace, Seed, Shape};
+use metqoraz::paper::order::write_order;
+use metqoraz::paper::series::series_plain;
+use metqoraz::paper::single::single_by_walk;
+use metqoraz::paper::terms::Tariff;
+use metqoraz::{calls, pruned};
+use std::hint::black_box;
+use std::time::Instant;
+
+const LENGTHS: [usize; 4] = [64, 128, 256, 512];
+const CAPS: [u32; 4] = [511, 1_023, 2_047, 4_095];
+const SHAPES: [Shape; 4] = [Shape::Feature, Shape::Flat, Shape::Noise, Shape::Spiky];
+const FEES: [u32; 6] = [0, 1_000, 10_000, 100_000, 1_000_000, 1_000_000_000];
+const PRICES: [(u32, u32); 2] = [(2, 1), (24, 1)];
+
+/// An order to be planned, as the product and as `paper` take it.
+struct Case {
+    trace: Vec<u16>,
+    tariff: Tariff,
+    order: Vec<u8>,
+}
+
+/// A trace of the shape, always the same one, with its front cut to the length.
+fn case(shape: Shape, periods: usize, prices: (u32, u32), fee: u32, rate_cap: u32) -> Case {
+    let trace = trace(shape, 512, &mut Seed(11))[..periods].to_vec();
+    let (rate_price, depth_price) = prices;
+    let tariff = Tariff { rate_price, depth_price, fee, p: 1, q: 2, rate_cap, depth_cap: 1_000_000 };
+    let order = write_order(&tariff, &trace).unwrap_or_default();
+    Case { trace, tariff, order }
+}
+
+/// The least time of some runs, in seconds.
+fn least<T>(runs: usize, call: impl Fn() -> T) -> f64 {
+    let time = || {
+        let start = Instant::now();
+        black_box(call());
+        start.elapsed().as_secs_f64()
+    };
+    (0..runs).map(|_| time()).fold(f64::INFINITY, f64::min)
+}
+
+impl Case {
+    fn product(&self) -> f64 {
+        least(7, || calls::series(black_box(&self.order)))
+    }
+
+    fn plain(&self) -> f64 {
+        least(1, || series_plain(black_box(&self.trace), &self.tariff))
+    }
+
+    fn yardstick(&self) -> f64 {
+        least(7, || pruned::series(black_box(&self.trace), &self.tariff))
+    }
+
+    fn sheet(&self) -> f64 {
+        least(7, || calls::sheet(black_box(&self.order)))
+    }
+
+    fn single(&self) -> f64 {
+        least(7, || calls::single(black_box(&self.order)))
+    }
+
+    fn single_plain(&self) -> f64 {
+        least(3, || single_by_walk(black_box(&self.trace), &self.tariff))
+    }
+}
+
+/// A heading and a table of ratios: a row for each shape, pair of prices and fee.
+fn table<const N: usize>(title: &str, columns: [String; N], cell: impl Fn(Shape, (u32, u32), u32, usize) -> String) {
+    println!("\n## {title}\n\n| trace | prices | fee | {} |", columns.join(" | "));
+    println!("|---|---|---|{}", "---|".repeat(N));
+    for shape in SHAPES {
+        for prices in PRICES {
+            for fee in FEES {
+                let cells: Vec<String> = (0..N).map(|column| cell(shape, prices, fee, column)).collect();
+                println!("| {shape:?} | {} and {} | {fee} | {} |", prices.0, prices.1, cells.join(" | "));
+            }
+        }
+    }
+}
+
+/// The series against the plain programme and the yardstick, and the sheet against the series.
+fn series_tables() {
+    let lengths = LENGTHS.map(|periods| format!("T = {periods}"));
+    table("Plain / product, by T", lengths.clone(), |shape, prices, fee, column| {
+        let case = case(shape, LENGTHS[column], prices, fee, 4_095);
+        format!("{:.1}", case.plain() / case.product())
+    });
+    table("Product / the same algorithm in Rust, by T", lengths, |shape, prices, fee, column| {
+        let case = case(shape, LENGTHS[column], prices, fee, 4_095);
+        format!("{:.2}", case.product() / case.yardstick())
+    });
+    let sheets = ["sheet / series".to_string(), "single: plain / product".to_string()];
+    table("The sheet and the single bucket, T = 512", sheets, |shape, prices, fee, column| {
+        let case = case(shape, 512, prices, fee, 4_095);
+        match column {
+            0 => format!("{:.2}", case.sheet() / case.product()),
+            _ => format!("{:.1}", case.single_plain() / case.single()),
+        }
+    });
+}
+
+/// How the product's time and the plain programme's grow with the trace and with the rate cap.
+fn growth_tables() {
+    println!("\n## Growth with T, rate cap 4,095, fee 100,000 (time at T = 64 is 1)\n");
+    println!("| trace | prices | product: 128 | 256 | 512 | plain: 128 | 256 | 512 |\n|---|---|---|---|---|---|---|---|");
+    growth(LENGTHS, |shape, prices, periods| case(shape, periods, prices, 100_000, 4_095));
+    println!("\n## Growth with the rate cap, T = 512, fee 100,000 (time at cap 511 is 1)\n");
+    println!("| trace | prices | product: 1,023 | 2,047 | 4,095 | plain: 1,023 | 2,047 | 4,095 |");
+    println!("|---|---|---|---|---|---|---|---|");
+    growth(CAPS, |shape, prices, cap| case(shape, 512, prices, 100_000, cap));
+}
+
+fn growth<S: Copy>(sizes: [S; 4], of: impl Fn(Shape, (u32, u32), S) -> Case) {
+    for shape in SHAPES {
+        for prices in PRICES {
+            let cases = sizes.map(|size| of(shape, prices, size));
+            let product = cases.each_ref().map(Case::product);
+            let plain = cases.each_ref().map(Case::plain);
+            let cells = [product, plain].map(|times| {
+                let [first, rest @ ..] = times;
+                rest.map(|time| format!("{:.1}", time / first)).join(" | ")
+            });
+            println!("| {shape:?} | {} and {} | {} |", prices.0, prices.1, cells.join(" | "));
+        }
+    }
+}
+
+fn main() {
+    series_tables();
+    growth_tables();
+}
