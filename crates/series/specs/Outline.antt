@@ -1,41 +1,16 @@
--- What the search keeps of the best cutting of what is left of a trace: its cost, its buckets and its first run's length; and
--- which of two is kept. That this is document 01's preference is a law (`SearchLaws.search-found`).
+-- The outline of the best cutting of what is left of a trace, which the search keeps: its cost, its buckets and its first run's
+-- length.
 -- Assumes nothing.
-use Prim.Native.Nat.{ℕ, _+_}
-use mathlib.Core.Bool.{Bool, cond}
-use mathlib.Core.List.{List}
-use lib.Dec.{ltb}
-use lib.ListN.{length, getD}
+use lib.ListN.{length}
 use Rattle.terms.specs.declared.Tariff.{Tariff}
 use Rattle.terms.specs.Answer.{Answer, figures, refused}
 use Rattle.terms.specs.Records.{Cutting, runLength}
-use Rattle.single.specs.Preference.{smaller}
-use Rattle.series.specs.declared.outlines.Choice.{Choice}
-use Rattle.series.specs.declared.outlines.Outline.{Outline}
+use Rattle.first_runs.specs.declared.outlines.Outline.{Outline}
+use Rattle.first_runs.specs.Outline.{noOutline}
 use Rattle.series.specs.Cutting.{firstRun}
 use Rattle.series.specs.Series.{trueCost}
-
--- Stands for the cost where there is none. Every cost is below it (`OutlineLaws.carried-below`).
-abbrev pub unpriced : ℕ
-unpriced = 1000000000000000000
-
-abbrev pub noOutline : Outline
-noOutline = record { cost = unpriced; buckets = 0; first = 0 }
 
 -- The outline of a cutting, if there is one.
 abbrev pub outlineOf : Tariff → Answer Cutting → Outline
 outlineOf t (figures xs) = record { cost = trueCost t xs; buckets = length xs; first = firstRun runLength xs }
 outlineOf t (refused n) = noOutline
-
--- The outline of a cutting whose first run has i + 1 periods and costs c. By i the lists hold the cost and the buckets of the
--- best cutting of what is left.
-abbrev pub begun : List ℕ → List ℕ → ℕ → ℕ → Outline
-begun costs counts i c = record { cost = c + getD costs i 0; buckets = getD counts i 0 + 1; first = i + 1 }
-
--- x is chosen before y: less cost, then fewer buckets, then the longer first run.
-unfoldable pub ahead : Outline → Outline → Bool
-ahead x y = smaller (x .cost) (y .cost) (smaller (x .buckets) (y .buckets) (ltb (y .first) (x .first)))
-
--- The old one, or the new one where that is chosen before it.
-unfoldable pub betterChoice : Choice → Choice → Choice
-betterChoice old new = cond (ahead (new .outline) (old .outline)) new old

@@ -21,7 +21,8 @@ use Rattle.record_list.specs.ListLaws.{noRecord}
 use Rattle.record_list.specs.Lists.{recorded}
 use Rattle.terms.specs.Records.{Cutting, runLength}
 use Rattle.series.specs.SeriesLaws.{record-whole, series-is}
-use Rattle.series.specs.Outline.{unpriced, outlineOf}
+use Rattle.first_runs.specs.Outline.{unpriced}
+use Rattle.series.specs.Outline.{outlineOf}
 use Rattle.series.specs.SuffixLaws.{Kept, outlineFrom, outline-none, outline-found, outline-plan}
 
 -- The record of a run is what the single call finds for it.

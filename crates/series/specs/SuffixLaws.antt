@@ -13,7 +13,6 @@ use borrow.Author.Tests.{eqb-true, eqb-false, le-ltb}
 use lib.Dec.{eqb, ltb}
 use lib.ListN.{length, take, drop, getD, set, replicate, length-set, length-drop, drop-of-length-le, getD-replicate}
 use lib.Seq.{getD-take, getD-drop, drop-drop, getD-set-same, getD-set-other}
-use Rattle.terms.specs.declared.Rate.{Rate}
 use Rattle.terms.specs.declared.Tariff.{Tariff}
 use Rattle.terms.specs.Answer.{Answer, figures, refused}
 use Rattle.terms.specs.Limits.{traceLimit}
@@ -22,16 +21,17 @@ use Rattle.terms.specs.Records.{Cutting, runLength, total}
 use Rattle.single.specs.Cost.{costOf}
 use Rattle.single.specs.PreferenceLaws.{not-smaller, smaller-not}
 use Rattle.single.specs.Single.{Serves, bucketOf}
-use Rattle.series.specs.declared.outlines.Choice.{Choice}
-use Rattle.series.specs.declared.outlines.Outline.{Outline}
-use Rattle.series.specs.Charge.{CostRange, Stops}
-use Rattle.series.specs.ChargeLaws.{stops-far}
+use Rattle.first_runs.specs.declared.outlines.Choice.{Choice}
+use Rattle.first_runs.specs.declared.outlines.Outline.{Outline}
+use Rattle.first_runs.specs.Charge.{Far}
+use Rattle.first_runs.specs.Outline.{unpriced, begun, ahead}
+use Rattle.first_runs.specs.OutlineLaws.{ahead-only, not-ahead-cost}
+use Rattle.first_runs.specs.SearchLaws.{startsWith, Served, Kind, Rests, BestFirst}
 use Rattle.series.specs.Cutting.{FirstRun, run, longer, wins, firstRun, bests}
 use Rattle.series.specs.CuttingLaws.{cut-first}
-use Rattle.series.specs.Outline.{unpriced, noOutline, outlineOf, begun, ahead}
-use Rattle.series.specs.OutlineLaws.{carried-below, outline-cost, outline-count, ahead-only, not-ahead-cost}
+use Rattle.series.specs.Outline.{outlineOf}
+use Rattle.series.specs.OutlineLaws.{carried-below, outline-cost, outline-count}
 use Rattle.series.specs.RunLaws.{best-of-none, best-runs}
-use Rattle.series.specs.SearchLaws.{startsWith, Passed, Served, Kind, Searching}
 use Rattle.series.specs.Series.{runCost, trueCost, ServesRun, Carried, preferred, runRecord, cheapestCut, planOf}
 use Rattle.series.specs.SeriesLaws.{IsSeries, series-is, record-whole}
 
@@ -97,10 +97,9 @@ module _ (t : Tariff) (h : TariffRange t) (ds : List ℕ) (few : length ds ≤ t
   left-bound figure limit list bound a i l =
       subst (λ (n : ℕ). n ≤ limit) (sym (a .at i l)) (bound (drop (suc i) ds) (omega (arith, length-drop (suc i) ds)) (cheapestCut t (drop (suc i) ds)) (series-is t (drop (suc i) ds)))
 
-  -- The search can go on from a cost at which it stops.
-  pub left-searching : (stops : List ℕ) (c : Choice) → Stops (t .fee) (c .outline .cost) costs stops → Kind t ds costs counts (c .outline) → c .rate .0 ≤ t .«rate_cap» .0
-      → Searching t ds costs counts stops c
-  left-searching stops c s kind slow =
+  -- The lists can be added up.
+  pub left-rests : Rests t ds costs counts
+  left-rests =
       record {
         tariffs = h;
         few = few;
@@ -108,20 +107,7 @@ module _ (t : Tariff) (h : TariffRange t) (ds : List ℕ) (few : length ds ≤ t
         counts-all = k .count .all;
         cost = left-bound keptCost unpriced costs (outline-cost t h) (k .cost);
         count = left-bound keptCount traceLimit counts (outline-count t h) (k .count);
-        stopped = s;
-        kind = kind;
-        rate = slow;
       }
-
-  pub left-costs : CostRange costs
-  left-costs = record { few = omega (arith, k .cost .all); each = λ i l. left-bound keptCost unpriced costs (outline-cost t h) (k .cost) i (omega (arith, k .cost .all)) }
-
-  -- The search begins with no cutting, and at no charge does it stop.
-  pub none-searching : (begin : Rate) → begin .0 ≤ t .«rate_cap» .0 → Searching t ds costs counts (replicate 512 (unpriced + 1)) (record { outline = noOutline; rate = begin })
-  none-searching begin slow =
-      let far = stops-far (t .fee) unpriced (unpriced + 1) costs (replicate 512 (unpriced + 1)) (omega arith) (omega arith) (omega (arith, k .cost .all)) (λ i l.
-      getD-replicate 512 i (unpriced + 1) 0 (omega (arith, k .cost .all))) in
-      left-searching (replicate 512 (unpriced + 1)) (record { outline = noOutline; rate = begin }) far (inl refl) slow
 
   -- A first run that is served, with the best cutting of what is left after it.
   module _ (i r B : ℕ) (inside : i < length ds) (s : Serves t (take (i + 1) ds) (bucketOf r B)) (zs : Cutting) (e : cheapestCut t (drop (suc i) ds) ≡ figures zs) where
@@ -160,36 +146,43 @@ module _ (t : Tariff) (h : TariffRange t) (ds : List ℕ) (few : length ds ≤ t
         is = s .is ∙ whole-outline i (s .rate) (s .depth) (s .inside) (s .serves) (rest .0) (rest .1);
       }
 
-  module _ (o : Outline) (kind : Kind t ds costs counts o) (passed : (r i : ℕ) → r ≤ t .«rate_cap» .0 → i < length ds → Passed t ds costs counts o r i) where
+  module _ (c : Choice) (f : BestFirst t ds costs counts c) where
+    abbrev o : Outline
+    o = c .outline
+
     -- The best cutting is not ahead of what is found …
     best-behind : (xs : Cutting) → cheapestCut t ds ≡ figures xs → Carried t ds xs → ahead (outlineOf t (figures xs)) o ≡ false
-    best-behind [] e c = absurd (omega (arith, k .some, ap length (best-of-none runLength (runCost t) (runRecord t) ds e)))
-    best-behind (x ∷ xs) e c =
+    best-behind [] e d = absurd (omega (arith, k .some, ap length (best-of-none runLength (runCost t) (runRecord t) ds e)))
+    best-behind (x ∷ xs) e d =
         let b = best-runs runLength (runCost t) (runRecord t) (record-whole t) ds x xs e in
-        let f = cut-first runLength (runCost t) (ServesRun t) c .0 .fits in
+        let g = cut-first runLength (runCost t) (ServesRun t) d .0 .fits in
         let i = runLength x - 1 in
         let n : runLength x ≡ suc i = omega (arith, b .some) in
         let inside : i < length ds = omega (arith, b .inside, n) in
-        let s : Serves t (take (i + 1) ds) (x .bucket) = subst (λ (m : ℕ). Serves t (take m ds) (x .bucket)) (n ∙ sym (add-one i)) f in
+        let s : Serves t (take (i + 1) ds) (x .bucket) = subst (λ (m : ℕ). Serves t (take m ds) (x .bucket)) (n ∙ sym (add-one i)) g in
         let rest : cheapestCut t (drop (suc i) ds) ≡ figures xs = subst (λ (m : ℕ). cheapestCut t (drop m ds) ≡ figures xs) n (b .onward) in
         let is : startsWith t ds costs counts i (x .bucket .rate .0) (x .bucket .depth .0) ≡ outlineOf t (figures (x ∷ xs)) =
         whole-outline i (x .bucket .rate .0) (x .bucket .depth .0) inside s xs rest ∙ ap (λ (m : ℕ). outlineOf t (figures (record { periods = m; bucket = x .bucket } ∷ xs))) (sym n) in
-        subst (λ (y : Outline). ahead y o ≡ false) is (passed (x .bucket .rate .0) i (f .rates) inside (x .bucket .depth .0) s)
+        subst (λ (y : Outline). ahead y o ≡ false) is (f .passed (x .bucket .rate .0) i (g .rates) inside (x .bucket .depth .0) s)
 
     -- … so what is found is its outline.
     pub search-found : o ≡ outlineOf t (cheapestCut t ds)
-    search-found = go (cheapestCut t ds) refl (series-is t ds) kind
+    search-found = go (cheapestCut t ds) refl (series-is t ds) (f .kind)
       where
         go : (a : Answer Cutting) → cheapestCut t ds ≡ a → IsSeries t ds a → Kind t ds costs counts o → o ≡ outlineOf t a
         go (figures xs) e b (inl none) =
             absurd (omega (arith, carried-below t h few (b .kind), not-ahead-cost o (outlineOf t (figures xs)) (best-behind xs e (b .kind)), ap (λ (x : Outline). x .cost) none))
         go (figures xs) e b (inr s) =
-            let f = served-found o s in
+            let x = served-found o s in
             ahead-only o (outlineOf t (figures xs))
-            (subst (λ (x : Outline). ahead x (outlineOf t (figures xs)) ≡ false) (sym (f .is)) (not-preferred-ahead t (f .cut) xs (b .none-preferred (f .cut) (f .carried))))
+            (subst (λ (x : Outline). ahead x (outlineOf t (figures xs)) ≡ false) (sym (x .is)) (not-preferred-ahead t (x .cut) xs (b .none-preferred (x .cut) (x .carried))))
             (best-behind xs e (b .kind))
         go (refused n) e b (inl none) = none
-        go (refused n) e b (inr s) = let f = served-found o s in absurd (b .1 (f .cut) (f .carried))
+        go (refused n) e b (inr s) = let x = served-found o s in absurd (b .1 (x .cut) (x .carried))
+
+-- The charges at which no walk stops.
+pub far-all : Far (replicate 512 (unpriced + 1))
+far-all = record { room = omega arith; each = λ i l. getD-replicate 512 i (unpriced + 1) 0 l }
 
 -- ---- One more period in front
 

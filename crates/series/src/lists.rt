@@ -1,11 +1,11 @@
 // The series planned into three number lists, whose front holds a figure of each record. Public only
 // for the crates above, which show what is required.
-use crate::outlines::UNPRICED;
 use crate::plans::Plan;
 use crate::plans::SeriesAnswer;
 use crate::records::record_runs;
 use crate::suffixes::ENTRIES;
 use crate::suffixes::cut_suffixes;
+use first_runs::outlines::UNPRICED;
 use terms::Refusal;
 use terms::Tariff;
 use terms::periods_in_range;

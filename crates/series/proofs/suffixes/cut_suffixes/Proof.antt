@@ -3,8 +3,8 @@ use Prim.Native.Nat.{ℕ, suc, _+_, _-_, _≤_, _<_}
 use native.Mathlib.Omega.{arith}
 use Rattle.series.specs.Outline.{outlineOf}
 use Rattle.series.specs.Series.{cheapestCut}
-use Rattle.series.specs.SuffixLaws.{Kept, Left, kept-left, kept-more}
-use Rattle.series.specs.declared.outlines.Choice.{Choice}
+use Rattle.series.specs.SuffixLaws.{Kept, Left, far-all, kept-left, kept-more, left-rests, search-found}
+use Rattle.first_runs.specs.declared.outlines.Choice.{Choice}
 use Rattle.terms.specs.declared.Rate.{Rate}
 use Rattle.terms.specs.declared.Tariff.{Tariff}
 use borrow.Author.Needs.{needs}
@@ -63,10 +63,10 @@ end t ds costs₀ counts₀ firsts₀ next costs counts firsts begin k l =
     subst (λ (n : ℕ). Kept t ds n costs counts firsts) e (k .kept)
 
 abbrev Inv-loop : tie.InvT-loop
-Inv-loop trace tariff costs₀ counts₀ firsts₀ end next₀ begin₀ costs counts firsts next begin = Keeping tariff trace costs₀ counts₀ firsts₀ next costs counts firsts begin
+Inv-loop trace tariff costs₀ counts₀ firsts₀ end next₀ far begin₀ costs counts firsts next begin = Keeping tariff trace costs₀ counts₀ firsts₀ next costs counts firsts begin
 
 abbrev μ-loop : tie.MeasureT-loop
-μ-loop trace tariff costs₀ counts₀ firsts₀ end next₀ begin₀ costs counts firsts next begin = next
+μ-loop trace tariff costs₀ counts₀ firsts₀ end next₀ far begin₀ costs counts firsts next begin = next
 
 add-end : tie.Need-add-end Inv-loop μ-loop
 add-end c = search needs
@@ -77,47 +77,51 @@ loop-holds c = search needs
 sub-start : tie.Need-sub-start Inv-loop μ-loop
 sub-start c = search needs
 
-mul-best-cut : tie.Need-mul-best-cut Inv-loop μ-loop
-mul-best-cut c = search needs
+mul-best-first : tie.Need-mul-best-first Inv-loop μ-loop
+mul-best-first c = search needs
 
-sub-best-cut : tie.Need-sub-best-cut Inv-loop μ-loop
-sub-best-cut c = search needs
+sub-best-first : tie.Need-sub-best-first Inv-loop μ-loop
+sub-best-first c = search needs
 
-part-best-cut-start : tie.Need-part-best-cut-start Inv-loop μ-loop
-part-best-cut-start c = search needs
+part-best-first-start : tie.Need-part-best-first-start Inv-loop μ-loop
+part-best-first-start c = search needs
 
-part-best-cut-end : tie.Need-part-best-cut-end Inv-loop μ-loop
-part-best-cut-end c = search needs
+part-best-first-end : tie.Need-part-best-first-end Inv-loop μ-loop
+part-best-first-end c = search needs
 
-mul-best-cut-2 : tie.Need-mul-best-cut-2 Inv-loop μ-loop
-mul-best-cut-2 c = search needs
+slice-aggregate-best-first : tie.Need-slice-aggregate-best-first Inv-loop μ-loop
+slice-aggregate-best-first c = search needs
 
-sub-best-cut-2 : tie.Need-sub-best-cut-2 Inv-loop μ-loop
-sub-best-cut-2 c = search needs
+mul-best-first-2 : tie.Need-mul-best-first-2 Inv-loop μ-loop
+mul-best-first-2 c = search needs
 
-part-best-cut-start-2 : tie.Need-part-best-cut-start-2 Inv-loop μ-loop
-part-best-cut-start-2 c = search needs
+sub-best-first-2 : tie.Need-sub-best-first-2 Inv-loop μ-loop
+sub-best-first-2 c = search needs
 
-part-best-cut-end-2 : tie.Need-part-best-cut-end-2 Inv-loop μ-loop
-part-best-cut-end-2 c = search needs
+part-best-first-start-2 : tie.Need-part-best-first-start-2 Inv-loop μ-loop
+part-best-first-start-2 c = search needs
 
-mul-best-cut-3 : tie.Need-mul-best-cut-3 Inv-loop μ-loop
-mul-best-cut-3 c = search needs
+part-best-first-end-2 : tie.Need-part-best-first-end-2 Inv-loop μ-loop
+part-best-first-end-2 c = search needs
 
-sub-best-cut-3 : tie.Need-sub-best-cut-3 Inv-loop μ-loop
-sub-best-cut-3 c = search needs
+mul-best-first-3 : tie.Need-mul-best-first-3 Inv-loop μ-loop
+mul-best-first-3 c = search needs
 
-part-best-cut-start-3 : tie.Need-part-best-cut-start-3 Inv-loop μ-loop
-part-best-cut-start-3 c = search needs
+sub-best-first-3 : tie.Need-sub-best-first-3 Inv-loop μ-loop
+sub-best-first-3 c = search needs
 
-part-best-cut-end-3 : tie.Need-part-best-cut-end-3 Inv-loop μ-loop
-part-best-cut-end-3 c = search needs
+part-best-first-start-3 : tie.Need-part-best-first-start-3 Inv-loop μ-loop
+part-best-first-start-3 c = search needs
 
-best-cut-requires : tie.Need-best-cut-requires Inv-loop μ-loop
-best-cut-requires c κs =
-    let i = c .before .before .before .before .before in
+part-best-first-end-3 : tie.Need-part-best-first-end-3 Inv-loop μ-loop
+part-best-first-end-3 c = search needs
+
+best-first-requires : tie.Need-best-first-requires Inv-loop μ-loop
+best-first-requires c κs =
+    let i = c .before .before .before .before .before .before in
     let s = i .before .before .before .before .before .before in
-    (few-left (s .args .trace .now) (i .before .loop .next - 1) (s .pre .0), (s .pre .1 .0, (i .before .loop .inv .rate, left _ _ _ _ _ _ _ _ _ _ (i .before .loop .inv) (i .loop-test .taken))))
+    let k = i .before .loop .inv in
+    (k .rate, (far-all, left-rests _ (s .pre .1 .0) _ (few-left (s .args .trace .now) (i .before .loop .next - 1) (s .pre .0)) _ _ (left _ _ _ _ _ _ _ _ _ _ k (i .loop-test .taken))))
 
 mul-costs : tie.Need-mul-costs Inv-loop μ-loop
 mul-costs c = search needs
@@ -143,8 +147,13 @@ loop-less c = search needs
 loop-again : tie.Need-loop-again Inv-loop μ-loop
 loop-again c =
     let d = c .before in
-    let i = d .before .before .before .before .before .before in
-    step _ _ _ _ _ _ _ _ _ _ (i .before .loop .inv) (i .loop-test .taken) _ (d .best-cut .ensures .0) (d .best-cut .ensures .1)
+    let i = d .before .before .before .before .before .before .before in
+    let s = i .before .before .before .before .before .before in
+    let k = i .before .loop .inv in
+    let f = d .best-first .ensures in
+    step _ _ _ _ _ _ _ _ _ _ k (i .loop-test .taken) _
+    (search-found _ (s .pre .1 .0) _ (few-left (s .args .trace .now) (i .before .loop .next - 1) (s .pre .0)) _ _ (left _ _ _ _ _ _ _ _ _ _ k (i .loop-test .taken)) _ f)
+    (f .rate)
 
 same-length : tie.Need-same-length Inv-loop μ-loop
 same-length c = search needs
@@ -167,19 +176,20 @@ cut-suffixes-spec =
     add-end
     loop-holds
     sub-start
-    mul-best-cut
-    sub-best-cut
-    part-best-cut-start
-    part-best-cut-end
-    mul-best-cut-2
-    sub-best-cut-2
-    part-best-cut-start-2
-    part-best-cut-end-2
-    mul-best-cut-3
-    sub-best-cut-3
-    part-best-cut-start-3
-    part-best-cut-end-3
-    best-cut-requires
+    mul-best-first
+    sub-best-first
+    part-best-first-start
+    part-best-first-end
+    slice-aggregate-best-first
+    mul-best-first-2
+    sub-best-first-2
+    part-best-first-start-2
+    part-best-first-end-2
+    mul-best-first-3
+    sub-best-first-3
+    part-best-first-start-3
+    part-best-first-end-3
+    best-first-requires
     mul-costs
     slice-write-costs
     mul-counts

@@ -1,0 +1,132 @@
+-- After i turns no run of 1 to i periods at these rates is chosen before what is found; where the walk stops, no longer one is.
+use Prim.Native.Nat.{_-_, _<_}
+use Rattle.first_runs.specs.ChargeLaws.{walked-start, walked-room}
+use Rattle.first_runs.specs.WeighLaws.{Passing, charge-limit, passing-start, passing-next, passing-stop, passing-end}
+use Rattle.bucket.specs.Trace.{Demands}
+use borrow.Author.Needs.{needs}
+use lib.ListN.{length}
+use mathlib.Core.Bool.{true≢false}
+use native.Mathlib.Nat.{le-trans}
+use native.Mathlib.Omega.{arith}
+use Rattle.first_runs.proofs.runs.may_better.Statement.{statement}
+use Rattle.first_runs.proofs.runs.may_better.Tie as tie
+
+abbrev Inv-loop : tie.InvT-loop
+Inv-loop trace tariff low high costs counts stops found walk₀ i₀ walk i = Passing tariff trace costs counts found (low .0) (high .0) walk i
+
+abbrev μ-loop : tie.MeasureT-loop
+μ-loop trace tariff low high costs counts stops found walk₀ i₀ walk i = length trace - i
+
+new-requires : tie.Need-new-requires Inv-loop μ-loop
+new-requires c κs = search needs
+
+loop-holds : tie.Need-loop-holds Inv-loop μ-loop
+loop-holds c =
+    passing-start _ _ _ _ _ _ (c .before .before .before .before .before .pre .1 .1) _ _ _ (walked-start _ _ _ _ (c .new .ensures .0) (c .new .ensures .1))
+
+mul-push : tie.Need-mul-push Inv-loop μ-loop
+mul-push c = search needs
+
+shared-slice-read-push : tie.Need-shared-slice-read-push Inv-loop μ-loop
+shared-slice-read-push c = search needs
+
+-- the demands are 16-bit numbers
+demands : (c : tie.At-loop Inv-loop μ-loop) → Demands (c .before .before .before .before .before .before .args .trace .now)
+demands c = record { each = λ i. omega (arith, c .before .before .before .before .before .shared-slice-known .given i) }
+
+push-requires : tie.Need-push-requires Inv-loop μ-loop
+push-requires c κs =
+    let l = c .before .before in
+    let p = l .before .before .before .before .before .before .pre in
+    let k = p .1 .1 in
+    let w = l .loop .inv .walk in (
+      k .rests .tariffs,
+      (
+        p .1 .0,
+        (le-trans (p .0) (p .1 .0), (walked-room _ _ _ _ _ w (c .before .loop-test .taken) (le-trans (p .1 .0) (k .rests .tariffs .rate-caps)) (demands l) (k .rests .few), w .depth)),
+      ),
+    )
+
+-- a turn's period, and how many there are
+period : (c : tie.In-loop Inv-loop μ-loop) → c .before .loop .i < 512
+period c = omega (arith, c .loop-test .taken, c .before .before .before .before .before .before .before .pre .1 .1 .rests .few)
+
+mul-if1 : tie.Need-mul-if1 Inv-loop μ-loop
+mul-if1 c = omega (arith, period (c .before .before))
+
+shared-slice-read-if1 : tie.Need-shared-slice-read-if1 Inv-loop μ-loop
+shared-slice-read-if1 c =
+    let i = c .before .before .before in
+    let k = i .before .before .before .before .before .before .before .pre .1 .1 in
+    omega (arith, i .loop-test .taken, k .rests .costs-all, k .stopped .room)
+
+returns : tie.Need-returns Inv-loop μ-loop
+returns c =
+    let d = c .before .before .before in
+    let i = d .before .before in
+    let k = i .before .before .before .before .before .before .before .pre .1 .1 in
+    λ e. passing-stop _ _ _ _ _ _ k _ _ _ _ _ (i .before .loop .inv) (i .loop-test .taken) (d .push .ensures) (c .if1 .taken)
+
+mul-cost-with : tie.Need-mul-cost-with Inv-loop μ-loop
+mul-cost-with c = omega (arith, period (c .before .before .before .before .before))
+
+shared-slice-read-cost-with : tie.Need-shared-slice-read-cost-with Inv-loop μ-loop
+shared-slice-read-cost-with c =
+    let i = c .before .before .before .before .before .before in
+    omega (arith, i .loop-test .taken, i .before .before .before .before .before .before .before .pre .1 .1 .rests .costs-all)
+
+cost-with-requires : tie.Need-cost-with-requires Inv-loop μ-loop
+cost-with-requires c κs =
+    let e = c .before in
+    let d = e .before .before .before in
+    let i = d .before .before in
+    let p = i .before .before .before .before .before .before .before .pre in
+    let k = p .1 .1 in (
+      charge-limit _ _ _ _ _ _ k _ _ _ _ _ (i .before .loop .inv .walk) (i .loop-test .taken) (d .push .ensures) (le-trans (p .0) (p .1 .0)) (e .if1 .left),
+      (period i, (k .rests .tariffs .fees, k .rests .cost _ (i .loop-test .taken))),
+    )
+
+returns-2 : tie.Need-returns-2 Inv-loop μ-loop
+returns-2 c = λ e. absurd (true≢false e)
+
+add-i : tie.Need-add-i Inv-loop μ-loop
+add-i c = omega (arith, period (c .before .before .before .before .before .before .before .before .before))
+
+loop-less : tie.Need-loop-less Inv-loop μ-loop
+loop-less c = omega (arith, c .before .before .before .before .before .before .before .before .before .loop-test .taken)
+
+loop-again : tie.Need-loop-again Inv-loop μ-loop
+loop-again c =
+    let w = c .before .before in
+    let e = w .before .before in
+    let d = e .before .before .before in
+    let i = d .before .before in
+    let k = i .before .before .before .before .before .before .before .pre .1 .1 in
+    passing-next _ _ _ _ _ _ k _ _ _ _ _ (i .before .loop .inv) (i .loop-test .taken) (d .push .ensures) (e .if1 .left) (omega (arith, c .if2 .left, w .cost-with .ensures))
+
+returns-3 : tie.Need-returns-3 Inv-loop μ-loop
+returns-3 c =
+    λ e. passing-end _ _ _ _ _ _ (c .before .before .before .before .before .before .before .pre .1 .1) _ _ _ _ (c .before .loop .inv) (c .loop-test .left)
+
+pub may-better-spec : {M : Type 1} → statement M
+may-better-spec =
+    tie.close
+    (tie.spec
+    Inv-loop
+    μ-loop
+    new-requires
+    loop-holds
+    mul-push
+    shared-slice-read-push
+    push-requires
+    mul-if1
+    shared-slice-read-if1
+    returns
+    mul-cost-with
+    shared-slice-read-cost-with
+    cost-with-requires
+    returns-2
+    add-i
+    loop-less
+    loop-again
+    returns-3)
