@@ -24,8 +24,7 @@ struct Choice {
 
 impl Choice {
     fn is_ahead(&self, other: &Choice) -> bool {
-        let fewer =
-            self.buckets < other.buckets || (self.buckets == other.buckets && other.first < self.first);
+        let fewer = self.buckets < other.buckets || (self.buckets == other.buckets && other.first < self.first);
         self.cost < other.cost || (self.cost == other.cost && fewer)
     }
 }

@@ -90,7 +90,23 @@ fn series_of_some_length_are_alike() {
     tally.expect(&[0, 7], 5);
 }
 
-/// Orders of 512 periods with a full rate cap, where one call takes a second or more: each seed makes one call.
+/// Rates enough for several looks at sixteen together, and fees of every size, so that runs of every length are cut and
+/// walks stop early.
+#[test]
+fn series_whose_walks_stop_are_alike() {
+    let tally = Tally::default();
+    for_seeds(3_600_000, 2_500, |seed| {
+        let tariff = Tariff { rate_cap: seed.between(0, 400), ..seed.pick([random_tariff, corner_tariff])(seed) };
+        let prices = Tariff { rate_price: seed.of_any_size(99), depth_price: seed.of_any_size(9), ..tariff };
+        let cheap = Tariff { fee: seed.of_any_size(1_000_000), ..prices };
+        let periods = seed.between(9, 70) as usize;
+        let demands = trace(seed.pick(SHAPES), periods, seed).iter().map(|demand| demand % 900).collect();
+        tally.count(&compare_series(&file_of(&(seed.pick([tariff, cheap, cheap]), demands))));
+    });
+    tally.expect(&[0, 7], 50);
+}
+
+/// Orders of 512 periods with a full rate cap, where the plain programme takes a second or more: each seed makes one call.
 #[test]
 fn the_longest_series_are_alike() {
     for_seeds(3_500_000, 12, |seed| {

@@ -32,11 +32,7 @@ abbrev pub coded : Answer ℕ → ℕ
 coded (figures n) = n
 coded (refused n) = refusedFrom + n
 
--- ---- A bucket and a factor of two numbers each
-
-abbrev pub bucketOf : ℕ → ℕ → Bucket
-bucketOf r B = record { rate = record { 0 = r }; depth = record { 0 = B } }
-
+-- The starting factor p/q.
 abbrev pub factorOf : ℕ → ℕ → Factor
 factorOf p q = record { p = p; q = q }
 

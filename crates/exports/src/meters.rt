@@ -15,7 +15,8 @@ ghost use lib.ListN.{length};
 ghost use lib.Seq.{sets};
 ghost use Rattle.terms.specs.Answer.{onFigures};
 ghost use Rattle.terms.specs.Lent.{filled};
-ghost use Rattle.exports.specs.Answers.{bucketOf, coded, factorOf, meterIn, totalsOf};
+ghost use Rattle.single.specs.Single.{bucketOf};
+ghost use Rattle.exports.specs.Answers.{coded, factorOf, meterIn, totalsOf};
 
 // The figures of a meter's record that are handed over.
 const TOTALS: usize = 5;

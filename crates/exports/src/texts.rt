@@ -12,7 +12,8 @@ ghost use Rattle.terms.specs.Answer.{onFigures};
 ghost use Rattle.terms.specs.Lent.{filled};
 ghost use Rattle.services.specs.Services.{singleIn, trialIn};
 ghost use Rattle.sheets.specs.Sheet.{sheetIn};
-ghost use Rattle.exports.specs.Answers.{bucketOf, coded};
+ghost use Rattle.single.specs.Single.{bucketOf};
+ghost use Rattle.exports.specs.Answers.{coded};
 
 // Writes the line of a trial of a bucket on an order's trace into the front of the text and answers
 // its length; or refusal 1 to 5 of the order, 5 of the bucket or 6, and the text is as it was.

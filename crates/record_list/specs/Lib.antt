@@ -1,4 +1,5 @@
--- Bucket records in three number lists, and their laws. No promise of a call that is offered to users cites them.
+-- Bucket records in three number lists, and their laws. Of the calls that are offered only
+-- `metqoraz_plan`, which fills number lists, cites them.
 pub mod Lists
 pub mod ListLaws
 pub mod FrontLaws

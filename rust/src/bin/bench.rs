@@ -68,7 +68,15 @@ impl Case {
     }
 }
 
-/// A heading and a table of ratios: a row for each shape, pair of prices and fee.
+/// A number with its digits in threes.
+fn grouped(number: u32) -> String {
+    match number / 1_000 {
+        0 => number.to_string(),
+        front => format!("{},{:03}", grouped(front), number % 1_000),
+    }
+}
+
+/// A heading and a table of ratios: a row for each shape, pair of prices (of rate and depth) and fee.
 fn table<const N: usize>(title: &str, columns: [String; N], cell: impl Fn(Shape, (u32, u32), u32, usize) -> String) {
     println!("\n## {title}\n\n| trace | prices | fee | {} |", columns.join(" | "));
     println!("|---|---|---|{}", "---|".repeat(N));
@@ -76,7 +84,7 @@ fn table<const N: usize>(title: &str, columns: [String; N], cell: impl Fn(Shape,
         for prices in PRICES {
             for fee in FEES {
                 let cells: Vec<String> = (0..N).map(|column| cell(shape, prices, fee, column)).collect();
-                println!("| {shape:?} | {} and {} | {fee} | {} |", prices.0, prices.1, cells.join(" | "));
+                println!("| {shape:?} | {} and {} | {} | {} |", prices.0, prices.1, grouped(fee), cells.join(" | "));
             }
         }
     }
@@ -106,7 +114,9 @@ fn series_tables() {
 /// How the product's time and the plain programme's grow with the trace and with the rate cap.
 fn growth_tables() {
     println!("\n## Growth with T, rate cap 4,095, fee 100,000 (time at T = 64 is 1)\n");
-    println!("| trace | prices | product: 128 | 256 | 512 | plain: 128 | 256 | 512 |\n|---|---|---|---|---|---|---|---|");
+    println!(
+        "| trace | prices | product: 128 | 256 | 512 | plain: 128 | 256 | 512 |\n|---|---|---|---|---|---|---|---|"
+    );
     growth(LENGTHS, |shape, prices, periods| case(shape, periods, prices, 100_000, 4_095));
     println!("\n## Growth with the rate cap, T = 512, fee 100,000 (time at cap 511 is 1)\n");
     println!("| trace | prices | product: 1,023 | 2,047 | 4,095 | plain: 1,023 | 2,047 | 4,095 |");

@@ -5,7 +5,8 @@ use borrow.Author.Tests.{le-leb, lt-leb}
 use Rattle.terms.specs.Bools.{check-passed, check-failed}
 use Rattle.terms.specs.Ranges.{freshOk}
 use Rattle.meter.specs.Meter.{openSays}
-use Rattle.exports.specs.Answers.{bucketOf, factorOf}
+use Rattle.single.specs.Single.{bucketOf}
+use Rattle.exports.specs.Answers.{factorOf}
 use Rattle.exports.specs.MeterLaws.{meter-figures, meter-list, meter-refused, meter-totals}
 use borrow.Author.Needs.{needs}
 use Rattle.exports.proofs.meters.metqoraz_meter.Statement.{statement}
