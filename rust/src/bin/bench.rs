@@ -14,7 +14,7 @@ const LENGTHS: [usize; 4] = [64, 128, 256, 512];
 const CAPS: [u32; 4] = [511, 1_023, 2_047, 4_095];
 const SHAPES: [Shape; 4] = [Shape::Feature, Shape::Flat, Shape::Noise, Shape::Spiky];
 const FEES: [u32; 6] = [0, 1_000, 10_000, 100_000, 1_000_000, 1_000_000_000];
-const PRICES: [(u32, u32); 2] = [(2, 1), (24, 1)];
+const PRICES: [(u32, u32); 3] = [(2, 1), (24, 1), (0, 1)];
 
 /// An order to be planned, as the product and as `paper` take it.
 struct Case {
@@ -32,39 +32,52 @@ fn case(shape: Shape, periods: usize, prices: (u32, u32), fee: u32, rate_cap: u3
     Case { trace, tariff, order }
 }
 
-/// The least time of some runs, in seconds.
-fn least<T>(runs: usize, call: impl Fn() -> T) -> f64 {
-    let time = || {
-        let start = Instant::now();
-        black_box(call());
-        start.elapsed().as_secs_f64()
-    };
-    (0..runs).map(|_| time()).fold(f64::INFINITY, f64::min)
+/// The time of one run, in seconds.
+fn time<T>(call: impl Fn() -> T) -> f64 {
+    let start = Instant::now();
+    black_box(call());
+    start.elapsed().as_secs_f64()
+}
+
+/// The least times of two calls that take turns, so that both meet the machine at the same speed.
+fn in_turns<A, B>(one: impl Fn() -> A, other: impl Fn() -> B) -> (f64, f64) {
+    let turn = |(first, second): (f64, f64), _| (first.min(time(&one)), second.min(time(&other)));
+    (0..9).fold((f64::INFINITY, f64::INFINITY), turn)
 }
 
 impl Case {
-    fn product(&self) -> f64 {
-        least(7, || calls::series(black_box(&self.order)))
+    fn product(&self) -> u64 {
+        calls::series(black_box(&self.order)).unwrap_or_default()
     }
 
-    fn plain(&self) -> f64 {
-        least(1, || series_plain(black_box(&self.trace), &self.tariff))
+    /// The least time of the product.
+    fn product_time(&self) -> f64 {
+        (0..9).map(|_| time(|| self.product())).fold(f64::INFINITY, f64::min)
     }
 
-    fn yardstick(&self) -> f64 {
-        least(7, || pruned::series(black_box(&self.trace), &self.tariff))
+    /// One run of the plain programme, which is long enough.
+    fn plain_time(&self) -> f64 {
+        time(|| series_plain(black_box(&self.trace), &self.tariff))
     }
 
-    fn sheet(&self) -> f64 {
-        least(7, || calls::sheet(black_box(&self.order)))
+    fn against_plain(&self) -> f64 {
+        self.plain_time() / self.product_time()
     }
 
-    fn single(&self) -> f64 {
-        least(7, || calls::single(black_box(&self.order)))
+    fn against_yardstick(&self) -> f64 {
+        let (product, rust) = in_turns(|| self.product(), || pruned::series(black_box(&self.trace), &self.tariff));
+        product / rust
     }
 
-    fn single_plain(&self) -> f64 {
-        least(3, || single_by_walk(black_box(&self.trace), &self.tariff))
+    fn sheet_against_series(&self) -> f64 {
+        let (sheet, series) = in_turns(|| calls::sheet(black_box(&self.order)), || self.product());
+        sheet / series
+    }
+
+    fn single_against_plain(&self) -> f64 {
+        let plain = || single_by_walk(black_box(&self.trace), &self.tariff);
+        let (plain, product) = in_turns(plain, || calls::single(black_box(&self.order)));
+        plain / product
     }
 }
 
@@ -94,19 +107,17 @@ fn table<const N: usize>(title: &str, columns: [String; N], cell: impl Fn(Shape,
 fn series_tables() {
     let lengths = LENGTHS.map(|periods| format!("T = {periods}"));
     table("Plain / product, by T", lengths.clone(), |shape, prices, fee, column| {
-        let case = case(shape, LENGTHS[column], prices, fee, 4_095);
-        format!("{:.1}", case.plain() / case.product())
+        format!("{:.1}", case(shape, LENGTHS[column], prices, fee, 4_095).against_plain())
     });
     table("Product / the same algorithm in Rust, by T", lengths, |shape, prices, fee, column| {
-        let case = case(shape, LENGTHS[column], prices, fee, 4_095);
-        format!("{:.2}", case.product() / case.yardstick())
+        format!("{:.2}", case(shape, LENGTHS[column], prices, fee, 4_095).against_yardstick())
     });
     let sheets = ["sheet / series".to_string(), "single: plain / product".to_string()];
     table("The sheet and the single bucket, T = 512", sheets, |shape, prices, fee, column| {
         let case = case(shape, 512, prices, fee, 4_095);
         match column {
-            0 => format!("{:.2}", case.sheet() / case.product()),
-            _ => format!("{:.1}", case.single_plain() / case.single()),
+            0 => format!("{:.2}", case.sheet_against_series()),
+            _ => format!("{:.1}", case.single_against_plain()),
         }
     });
 }
@@ -128,8 +139,8 @@ fn growth<S: Copy>(sizes: [S; 4], of: impl Fn(Shape, (u32, u32), S) -> Case) {
     for shape in SHAPES {
         for prices in PRICES {
             let cases = sizes.map(|size| of(shape, prices, size));
-            let product = cases.each_ref().map(Case::product);
-            let plain = cases.each_ref().map(Case::plain);
+            let product = cases.each_ref().map(Case::product_time);
+            let plain = cases.each_ref().map(Case::plain_time);
             let cells = [product, plain].map(|times| {
                 let [first, rest @ ..] = times;
                 rest.map(|time| format!("{:.1}", time / first)).join(" | ")
