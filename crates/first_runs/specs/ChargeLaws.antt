@@ -64,6 +64,7 @@ module _ (t : Tariff) (ds : List ℕ) where
 
 -- ---- The depth of a walk, a period at a time
 
+-- A walk's stretch never falls.
 pub pushed-stretch : (r d : ℕ) (w : Walk) → w .stretch ≤ pushed r w d .stretch
 unfolding pushed
 pushed-stretch r d w = le-max-left (w .stretch) _
@@ -76,19 +77,19 @@ started-depth p q limit =
     rw (le-leb 0 limit (omega arith), le-leb (0 * q) (p * limit) (le-trans (le-of-eq (zero-mul q)) (omega arith)), z)
 
 -- Where a period does not raise the opening, the depth is raised to the stretch alone.
-same-opening : (p q cap B : ℕ) (old new : Walk) → depthFrom p q cap old ≡ figures B → new .opening ≡ old .opening → old .stretch ≤ new .stretch
-    → cond (leb (new .stretch) cap) (figures (max B (new .stretch))) (refused 7) ≡ depthFrom p q cap new
+same-opening : (p q limit B : ℕ) (old new : Walk) → depthFrom p q limit old ≡ figures B → new .opening ≡ old .opening → old .stretch ≤ new .stretch
+    → cond (leb (new .stretch) limit) (figures (max B (new .stretch))) (refused 7) ≡ depthFrom p q limit new
 unfolding depthFrom
-same-opening p q cap B old new e f l = go (capMeets p q cap old) refl e
+same-opening p q limit B old new e f l = go (capMeets p q limit old) refl e
   where
-    go : (b : Bool) → capMeets p q cap old ≡ b → cond b (figures (max (old .stretch) (ceiling (old .opening * q) p))) (refused 7) ≡ figures B
-        → cond (leb (new .stretch) cap) (figures (max B (new .stretch))) (refused 7)
-        ≡ cond (leb (new .stretch) cap && leb (new .opening * q) (p * cap)) (figures (max (new .stretch) (ceiling (new .opening * q) p))) (refused 7)
+    go : (b : Bool) → capMeets p q limit old ≡ b → cond b (figures (max (old .stretch) (ceiling (old .opening * q) p))) (refused 7) ≡ figures B
+        → cond (leb (new .stretch) limit) (figures (max B (new .stretch))) (refused 7)
+        ≡ cond (leb (new .stretch) limit && leb (new .opening * q) (p * limit)) (figures (max (new .stretch) (ceiling (new .opening * q) p))) (refused 7)
     go true h g =
-        let k = and-both (leb (old .stretch) cap) (leb (old .opening * q) (p * cap)) h in
+        let k = and-both (leb (old .stretch) limit) (leb (old .opening * q) (p * limit)) h in
         let m : max B (new .stretch) ≡ max (new .stretch) (ceiling (old .opening * q) p) =
         ap (λ (n : ℕ). max n (new .stretch)) (sym (same-figures g)) ∙ raised (old .stretch) (ceiling (old .opening * q) p) (new .stretch) l in
-        rw (f, k .1, and-true (leb (new .stretch) cap), m)
+        rw (f, k .1, and-true (leb (new .stretch) limit), m)
     go false h g = absurd (figures-refused (sym g))
 
 module _ (t : Tariff) (old new : Walk) (B : ℕ) (e : walkDepth t old ≡ figures B) (f : old .opening ≡ new .opening) (l : old .stretch ≤ new .stretch) where
@@ -224,6 +225,7 @@ module _ (fee known : ℕ) (costs stops : List ℕ) where
 pub stops-lower : {fee known less : ℕ} {costs stops : List ℕ} → less ≤ known → Stops fee known costs stops → Stops fee less costs stops
 stops-lower l k = record { room = k .room; below = k .below; beyond = λ i j c m n o. lt-of-le-of-lt l (k .beyond i j c m n o) }
 
+-- Charges far out of reach stop no walk.
 pub stops-far : (fee : ℕ) (costs far : List ℕ) → length costs ≤ traceLimit → Far far → Stops fee unpriced costs far
 stops-far fee costs far few k =
     record {

@@ -76,7 +76,7 @@ outline-found t (refused m) n = absurd (n refl)
 
 -- ---- The best cutting of some periods, from those of what is left after its first run
 
--- Where a cutting is not preferred its outline is not ahead.
+-- Where a cutting is not preferred its outline is not ahead: its first run, for one, is not longer.
 first-not-longer : (ys xs : Cutting) → longer runLength ys xs ≡ false → ltb (firstRun runLength xs) (firstRun runLength ys) ≡ false
 unfolding longer
 first-not-longer [] xs h = le-ltb (firstRun runLength xs) 0 (omega arith)

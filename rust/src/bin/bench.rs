@@ -89,37 +89,28 @@ fn grouped(number: u32) -> String {
     }
 }
 
-/// A heading and a table of ratios: a row for each shape, pair of prices (of rate and depth) and fee.
-fn table<const N: usize>(title: &str, columns: [String; N], cell: impl Fn(Shape, (u32, u32), u32, usize) -> String) {
-    println!("\n## {title}\n\n| trace | prices | fee | {} |", columns.join(" | "));
-    println!("|---|---|---|{}", "---|".repeat(N));
+/// A table of ratios by T: a row for each shape, pair of prices (of rate and depth) and fee.
+fn table(title: &str, fees: &[u32], digits: usize, ratio: impl Fn(&Case) -> f64) {
+    let columns = LENGTHS.map(|periods| format!("T = {periods}")).join(" | ");
+    println!("\n## {title}\n\n| trace | prices | fee | {columns} |\n|---|---|---|---|---|---|---|");
     for shape in SHAPES {
         for prices in PRICES {
-            for fee in FEES {
-                let cells: Vec<String> = (0..N).map(|column| cell(shape, prices, fee, column)).collect();
-                println!("| {shape:?} | {} and {} | {} | {} |", prices.0, prices.1, grouped(fee), cells.join(" | "));
+            for &fee in fees {
+                let cell = |periods| format!("{:.*}", digits, ratio(&case(shape, periods, prices, fee, 4_095)));
+                let cells = LENGTHS.map(cell).join(" | ");
+                println!("| {shape:?} | {} and {} | {} | {cells} |", prices.0, prices.1, grouped(fee));
             }
         }
     }
 }
 
-/// The series against the plain programme and the yardstick, and the sheet against the series.
-fn series_tables() {
-    let lengths = LENGTHS.map(|periods| format!("T = {periods}"));
-    table("Plain / product, by T", lengths.clone(), |shape, prices, fee, column| {
-        format!("{:.1}", case(shape, LENGTHS[column], prices, fee, 4_095).against_plain())
-    });
-    table("Product / the same algorithm in Rust, by T", lengths, |shape, prices, fee, column| {
-        format!("{:.2}", case(shape, LENGTHS[column], prices, fee, 4_095).against_yardstick())
-    });
-    let sheets = ["sheet / series".to_string(), "single: plain / product".to_string()];
-    table("The sheet and the single bucket, T = 512", sheets, |shape, prices, fee, column| {
-        let case = case(shape, 512, prices, fee, 4_095);
-        match column {
-            0 => format!("{:.2}", case.sheet_against_series()),
-            _ => format!("{:.1}", case.single_against_plain()),
-        }
-    });
+/// The series against the plain programme and the yardstick, the sheet against the series, and the single bucket against
+/// the plain search.
+fn ratio_tables() {
+    table("Series: plain / product", &FEES, 1, Case::against_plain);
+    table("Series: product / the same algorithm in Rust", &FEES, 2, Case::against_yardstick);
+    table("Sheet / series", &[0, 100_000, 1_000_000_000], 2, Case::sheet_against_series);
+    table("Single: plain / product", &[100_000], 1, Case::single_against_plain);
 }
 
 /// How the product's time and the plain programme's grow with the trace and with the rate cap.
@@ -151,6 +142,6 @@ fn growth<S: Copy>(sizes: [S; 4], of: impl Fn(Shape, (u32, u32), S) -> Case) {
 }
 
 fn main() {
-    series_tables();
+    ratio_tables();
     growth_tables();
 }
