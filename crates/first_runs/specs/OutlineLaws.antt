@@ -2,10 +2,12 @@
 -- Assumes nothing.
 use Prim.Native.Nat.{ℕ, _≤_, _<_}
 use native.Mathlib.Omega.{arith}
-use native.Mathlib.Nat.{le-trans, le-of-lt, le-antisymm}
-use mathlib.Core.Path.{_≡_, ap, _∙_}
-use mathlib.Core.Bool.{true, false}
-use borrow.Author.Tests.{ltb-true, ltb-false, le-ltb}
+use native.Mathlib.Nat.{le-trans, le-of-eq, le-of-lt, le-antisymm}
+use mathlib.Core.Path.{_≡_, sym, ap, _∙_}
+use mathlib.Core.Bool.{true, false, _&&_, _||_}
+use borrow.Author.Tests.{ltb-true, ltb-false, le-ltb, lt-ltb, eq-eqb}
+use lib.Dec.{ltb, eqb}
+use Rattle.single.specs.Preference.{smaller}
 use Rattle.single.specs.PreferenceLaws.{not-smaller, smaller-not, smaller-trans, smaller-same, smaller-asym}
 use Rattle.first_runs.specs.declared.outlines.Outline.{Outline}
 use Rattle.first_runs.specs.Outline.{ahead}
@@ -45,7 +47,16 @@ pub dearer-not-ahead : (x y : Outline) → x .cost < y .cost → ahead y x ≡ f
 unfolding ahead
 dearer-not-ahead x y h = not-smaller _ _ _ (le-of-lt h) (λ e. absurd (omega arith))
 
--- Nor is what only costs at least as much, or what has more buckets.
+-- What costs less is ahead, and between equal costs the buckets and the first run decide.
+pub cheaper-ahead : (x y : Outline) → x .cost < y .cost → ahead x y ≡ true
+unfolding ahead smaller
+cheaper-ahead x y h = rw (lt-ltb (x .cost) (y .cost) h)
+
+pub same-cost-ahead : (x y : Outline) → x .cost ≡ y .cost → ahead x y ≡ ltb (x .buckets) (y .buckets) || eqb (x .buckets) (y .buckets) && ltb (y .first) (x .first)
+unfolding ahead smaller
+same-cost-ahead x y e = rw (le-ltb (x .cost) (y .cost) (le-of-eq (sym e)), eq-eqb (x .cost) (y .cost) e)
+
+-- What only costs at least as much is not ahead, nor is what has more buckets besides.
 pub alike-not-ahead : (x y : Outline) → x .cost ≤ y .cost → y .buckets ≡ x .buckets → y .first ≡ x .first → ahead y x ≡ false
 unfolding ahead
 alike-not-ahead x y h b f = not-smaller _ _ _ h (λ e. not-smaller _ _ _ (omega arith) (λ e. le-ltb (x .first) (y .first) (omega arith)))

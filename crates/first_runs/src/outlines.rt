@@ -38,7 +38,9 @@ fn is_ahead(x: Outline, y: Outline) -> bool
     if y.cost < x.cost {
         return false;
     }
+    if x.cost < y.cost {
+        return true;
+    }
     let longer = (x.buckets == y.buckets) & (y.first < x.first);
-    let fewer = (x.buckets < y.buckets) | longer;
-    (x.cost < y.cost) | ((x.cost == y.cost) & fewer)
+    (x.buckets < y.buckets) | longer
 }
