@@ -1,5 +1,5 @@
-// What the search keeps of a cutting, and which of two is kept. Public only for this crate's
-// search.
+// What the search keeps of a cutting, and which of two is kept. Public only for this crate's search
+// and for the crate above.
 use terms::Rate;
 ghost use mathlib.Core.Path.{_≡_};
 ghost use Rattle.first_runs.specs.Outline.{ahead, betterChoice};
