@@ -10,6 +10,7 @@ use metqoraz::paper::order::{read_order, trace_of};
 use metqoraz::paper::plan::write_plan;
 use metqoraz::paper::series::series_by_trying;
 use metqoraz::paper::sheet::{sheet, single_line, trial_line};
+use metqoraz::paper::terms::Tariff;
 use metqoraz::paper::{Answer, PERIODS};
 use shared::{any_order, compare_in, file_of, file_with, for_seeds, lent, on_order, said, same, small_order, Tally};
 
@@ -30,28 +31,26 @@ fn compare_all(file: &[u8], seed: &mut Seed) {
     compare_in(room, &booked(file), seed, |plan| calls::book_into(file, plan));
 }
 
-#[test]
-fn damaged_small_orders_are_answered_alike() {
+/// Orders of one kind, each damaged; every answer of reading is met at least so often.
+fn compare_damaged(base: u64, count: u64, least: u32, order: impl Fn(&mut Seed) -> (Tariff, Vec<u16>)) {
     let tally = Tally::default();
-    for_seeds(4_000_000, 60_000, |seed| {
-        let file = file_of(&small_order(5, seed));
+    for_seeds(base, count, |seed| {
+        let file = file_of(&order(seed));
         let bytes = damaged(&file, seed);
         compare_all(&bytes, seed);
         tally.count(&read_order(&bytes));
     });
-    tally.expect(&[0, 1, 2, 3, 4, 5], 1_000);
+    tally.expect(&[0, 1, 2, 3, 4, 5], least);
+}
+
+#[test]
+fn damaged_small_orders_are_answered_alike() {
+    compare_damaged(4_000_000, 60_000, 1_000, |seed| small_order(5, seed));
 }
 
 #[test]
 fn damaged_orders_are_answered_alike() {
-    let tally = Tally::default();
-    for_seeds(4_100_000, 2_000, |seed| {
-        let file = file_of(&any_order(3, seed));
-        let bytes = damaged(&file, seed);
-        compare_all(&bytes, seed);
-        tally.count(&read_order(&bytes));
-    });
-    tally.expect(&[0, 1, 2, 3, 4, 5], 50);
+    compare_damaged(4_100_000, 2_000, 50, |seed| any_order(3, seed));
 }
 
 #[test]

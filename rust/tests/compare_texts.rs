@@ -11,11 +11,26 @@ use shared::{
     any_file, any_order, any_trace, compare_filled, file_of, for_seeds, printed_case, said, same, small_order, Tally,
 };
 
-fn compare_trial(file: &[u8], bucket: Bucket, seed: &mut Seed) -> Answer<Vec<u8>> {
-    let right = said(&trial_line(file, bucket));
-    same(&calls::trial(file, bucket).map(String::into_bytes), &right);
-    compare_filled(&right, seed, |text| calls::trial_into(file, bucket, text));
+/// A text of the paper's against the product's, whole and in rooms of every size.
+fn compare_text(
+    right: &str,
+    whole: Answer<String>,
+    seed: &mut Seed,
+    into: impl Fn(&mut [u8]) -> Answer<usize>,
+) -> Answer<Vec<u8>> {
+    let right = said(right);
+    same(&whole.map(String::into_bytes), &right);
+    compare_filled(&right, seed, into);
     right
+}
+
+fn compare_trial(file: &[u8], bucket: Bucket, seed: &mut Seed) -> Answer<Vec<u8>> {
+    let whole = calls::trial(file, bucket);
+    compare_text(&trial_line(file, bucket), whole, seed, |text| calls::trial_into(file, bucket, text))
+}
+
+fn compare_single(file: &[u8], seed: &mut Seed) -> Answer<Vec<u8>> {
+    compare_text(&single_line(file), calls::single(file), seed, |text| calls::single_into(file, text))
 }
 
 #[test]
@@ -46,13 +61,6 @@ fn trials_of_long_traces_are_alike() {
         tally.count(&compare_trial(&file, bucket(seed), seed));
     });
     tally.expect(&[0, 5], 500);
-}
-
-fn compare_single(file: &[u8], seed: &mut Seed) -> Answer<Vec<u8>> {
-    let right = said(&single_line(file));
-    same(&calls::single(file).map(String::into_bytes), &right);
-    compare_filled(&right, seed, |text| calls::single_into(file, text));
-    right
 }
 
 #[test]

@@ -62,7 +62,7 @@ module _ (t : Tariff) (ds costs counts stops : List ℕ) (found : Choice) (k : S
     pub walk-on : n .charge < getD stops i 0 → Walked t high ds (i + 1) n
     walk-on m = walked-next t high ds i c w l low n s (goes-on m)
 
-    -- Where the walk stops, no run of more than i periods is chosen before what is found, or before anything chosen before that.
+    -- Where the walk stops, no run of more than i periods is chosen before what is found, or before what costs no more.
     pub stopped-passed : (o : Outline) → o .cost ≤ found .outline .cost → getD stops i 0 ≤ n .charge
         → (r j : ℕ) → low ≤ r → r ≤ high → i ≤ j → j < length ds → Passed t ds costs counts o r j
     stopped-passed o m x r j a b y z =
