@@ -5,32 +5,27 @@ use Prim.Native.Nat.{ℕ, min, _≤_}
 use native.Mathlib.Omega.{arith}
 use mathlib.Core.Path.{_≡_, refl, sym, ap, ap₂, subst, _∙_}
 use mathlib.Core.List.{List}
-use lib.ListN.{length}
-use Rattle.terms.specs.Answer.{Answer, figures, refused, onFigures}
-use Rattle.terms.specs.AnswerLaws.{on-figures, on-refused, then-figures}
+use lib.ListN.{length, take}
+use Rattle.terms.specs.Answer.{Answer, figures, refused, onFigures, andThen}
+use Rattle.terms.specs.AnswerLaws.{on-figures, on-refused}
 use Rattle.terms.specs.Lent.{filled}
+use Rattle.terms.specs.LentLaws.{filled-front}
 use Rattle.terms.specs.Limits.{traceLimit}
 use Rattle.terms.specs.Records.{Cutting}
-use Rattle.encoding.specs.Number.{numberAt}
 use Rattle.encoding.specs.NumberLaws.{Bytes}
-use Rattle.order_file.specs.declared.orders.Order.{Order}
-use Rattle.order_file.specs.Order.{readOrder, tracePart, spreadOf}
-use Rattle.order_file.specs.OrderLaws.{demands-count}
-use Rattle.order_file.specs.OrderRules.{read-rules, spread-rules}
-use Rattle.order_file.specs.Ordered.{ordered, spreadFrom}
-use Rattle.order_file.specs.OrderedLaws.{is-ordered, found-spread}
+use Rattle.order_file.specs.Ordered.{Ordered, ordered}
+use Rattle.order_file.specs.OrderedLaws.{ordered-count, ordered-min}
 use Rattle.record_list.specs.ListLaws.{stored-answer, stored-none}
 use Rattle.record_list.specs.Lists.{RecordLists, Filled, counted, recordsOf}
-use Rattle.plan_file.specs.Plan.{bucketsOf, readPlan}
-use Rattle.planning.specs.Planning.{Planned, cuttingOf}
+use Rattle.plan_file.specs.Plan.{Recorded}
+use Rattle.planning.specs.Planning.{Planned, planned, plannedRuns, cuttingOf, demandsOf}
 use Rattle.planning.specs.PlannedLaws.{is-planned}
 use Rattle.recording.specs.declared.plans.Booking.{Booking}
 use Rattle.booking.specs.Booking.{Steps, lent, booked, answerOf, lentAfter}
-use Rattle.booking.specs.CallLaws.{Sizes, ListsLent, Called, sizes, lentLists, plannedIn, writtenIn, readIn, bookedIn}
+use Rattle.booking.specs.CallLaws.{Sizes, ListsLent, Called, sizes, lentLists, plannedIn, recordingIn, bookedIn}
 use Rattle.booking.specs.Claim.{Claim}
 use Rattle.booking.specs.ClaimLaws.{booked-sizes, claim-holds}
-use Rattle.booking.specs.FrontLaws.{Front, FrontOnly, frontLength, filled-front-only, put-back, restored}
-use Rattle.booking.specs.StepLaws.{found-back, found-same, planned-short, steps-found, steps-refused}
+use Rattle.booking.specs.StepLaws.{found-back, found-recorded, found-same, planned-short, steps-found}
 
 -- What the list planned into, and the list read into, hold afterwards that were lent.
 abbrev pub planAfter : Answer Steps → Cutting → Cutting
@@ -50,29 +45,13 @@ pub record BooksLists (bs : List ℕ) (z : Sizes) (old new : ListsLent) (answer 
 
 -- ---- What the calls leave
 
--- No more than 512 demands are spread.
-spread-short : (bs : List ℕ) (o : Order) → readOrder bs ≡ figures o → (space : ℕ) (ds : List ℕ) → spreadOf space (tracePart bs) ≡ figures ds → length ds ≤ min space traceLimit
-spread-short bs o e space ds f =
-    let s = spread-rules space (tracePart bs) ds f in
-    let r = read-rules bs o e in
-    let T : length ds ≡ numberAt 4 bs 4 = ap length (sym (s .0)) ∙ demands-count bs o e ∙ ap (λ (x : Order). x .periods) (r .1) in
-    omega (arith, T, s .1, r .0 .periods .few)
-
--- Spreading changes the front of the demands only.
-spread-front : (bs old : List ℕ) → FrontOnly old (filled (spreadFrom (length old) bs) old)
-spread-front bs old = filled-front-only (spreadFrom (length old) bs) old short
-  where
-    short : (ds : List ℕ) → spreadFrom (length old) bs ≡ figures ds → length ds ≤ frontLength old
-    short ds e =
-        let f = on-figures (λ x. x .demands) (ordered (length old) bs) e in
-        let o = is-ordered (length old) bs (f .0) (f .1) in
-        spread-short bs (f .0 .order) (o .read) (length old) ds (o .spread ∙ ap figures (f .2))
-
 lent-by : {a a′ : List ℕ} {b b′ : Cutting} {c c′ : List ℕ} {d d′ : Cutting} → a ≡ a′ → b ≡ b′ → c ≡ c′ → d ≡ d′ → lent a b c d ≡ lent a′ b′ c′ d′
 lent-by e f g h = rw (e, f, g, h)
 
-module _ (bs : List ℕ) (h : Bytes bs) (room space : ℕ) (old called : ListsLent) (answer : Answer Booking)
-    (c : Called bs (sizes (length (old .demands)) room (length (old .bytes)) space) old called answer) where
+-- The calls are made on a list of the booking's own, `own`, with as many entries as the lent demands but no more than 512. What they
+-- give is what they give on the lent demands.
+module _ (bs : List ℕ) (h : Bytes bs) (room space : ℕ) (old called : ListsLent) (own : List ℕ) (size : length own ≡ min (length (old .demands)) traceLimit)
+    (answer : Answer Booking) (c : Called bs (sizes (length own) room (length (old .bytes)) space) (lentLists own (old .plan) (old .bytes) (old .back)) called answer) where
   abbrev z : Sizes
   z = sizes (length (old .demands)) room (length (old .bytes)) space
 
@@ -80,55 +59,51 @@ module _ (bs : List ℕ) (h : Bytes bs) (room space : ℕ) (old called : ListsLe
   abbrev all : Answer Steps
   all = bookedIn z bs
 
-  -- the demands and the bytes that are left
-  abbrev Left : List ℕ → Type 0
-  Left demands = (demands ≡ filled (onFigures (λ s. s .planning .demands) all) (old .demands)) × (called .bytes ≡ filled (onFigures (λ s. s .recording .file) all) (old .bytes))
+  same-plan : planned (length own) room bs ≡ plannedIn z bs
+  same-plan =
+      ap (λ (a : Answer Ordered). andThen a (λ x. plannedRuns (x .order) (x .demands) room))
+      (ap (λ (n : ℕ). ordered n bs) size ∙ ordered-min bs (length (old .demands)))
 
-  figures-left : (s : Steps) → all ≡ figures s → Left (called .demands)
-  figures-left s e =
-      let f = steps-found bs z s e in
-      let p = is-planned (z .demands) room bs (s .planning) (f .is-plan) in (
-        c .spreads ∙ ap (λ (a : Answer (List ℕ)). filled a (old .demands)) (found-spread (p .as-ordered)) ∙ ap (λ (a : Answer Steps). filled (onFigures (λ t. t .planning .demands) a) (old .demands)) (sym e),
-        c .writes ∙ ap (λ (a : Answer (List ℕ)). filled a (old .bytes)) (sym (then-figures (plannedIn z bs) (writtenIn z) (f .is-plan)) ∙ f .is-written)
-            ∙ ap (λ (a : Answer Steps). filled (onFigures (λ t. t .recording .file) a) (old .bytes)) (sym e),
-      )
+  same-calls : bookedIn (sizes (length own) room (length (old .bytes)) space) bs ≡ all
+  same-calls = ap (λ (a : Answer Planned). andThen a (λ x. onFigures (λ y. record { planning = x; recording = y }) (recordingIn z x))) same-plan
 
-  -- after a refusal, once the demands are put back
-  refused-left : (ds : List ℕ) → Front (old .demands) ds → (n : ℕ) → all ≡ refused n → Left (restored ds (called .demands))
-  refused-left ds k n e =
-      let w = steps-refused bs h z n e in
-      let f : FrontOnly (old .demands) (called .demands) = subst (FrontOnly (old .demands)) (sym (c .spreads)) (spread-front bs (old .demands)) in (
-        put-back (old .demands) ds (called .demands) k f ∙ ap (λ (a : Answer Steps). filled (onFigures (λ t. t .planning .demands) a) (old .demands)) (sym e),
-        c .writes ∙ ap (λ (a : Answer (List ℕ)). filled a (old .bytes)) (w .not-written) ∙ ap (λ (a : Answer Steps). filled (onFigures (λ t. t .recording .file) a) (old .bytes)) (sym e),
-      )
+  answers-all : answer ≡ onFigures answerOf all
+  answers-all = c .answers ∙ ap (onFigures answerOf) same-calls
 
-  books : (demands : List ℕ) → Left demands → BooksLists bs z old (lentLists demands (called .plan) (called .bytes) (called .back)) answer
+  books : (demands : List ℕ) → demands ≡ filled (onFigures (λ s. s .planning .demands) all) (old .demands)
+      → BooksLists bs z old (lentLists demands (called .plan) (called .bytes) (called .back)) answer
   books demands l =
       record {
         claims = λ plan back plan′ back′ e f p q.
             let x = lent (old .demands) plan (old .bytes) back in
             let same : booked x bs ≡ all = booked-sizes x bs ∙ ap₂ (λ (m n : ℕ). bookedIn (sizes (length (old .demands)) m (length (old .bytes)) n) bs) e f in
-            claim-holds bs h x (lent demands plan′ (called .bytes) back′) answer (c .answers ∙ ap (onFigures answerOf) (sym same))
-            (lent-by (l .0) p (l .1) q ∙ ap (λ (a : Answer Steps). lentAfter a x) (sym same));
-        answers = c .answers;
-        plans = λ s e. subst (λ (a : Answer Planned). Filled (cuttingOf a) (old .plan) (called .plan)) (steps-found bs z s e .is-plan) (c .records);
-        reads = λ s e.
-            let f = steps-found bs z s e in
-            subst (λ (a : Answer Cutting). Filled a (old .back) (called .back))
-            (sym (then-figures (plannedIn z bs) (readIn z) (f .is-plan)) ∙ sym (then-figures (writtenIn z (s .planning)) (λ file. bucketsOf (readPlan space file)) (f .is-written)) ∙ ap bucketsOf (f .is-read))
-            (c .reads);
+            let file = c .writes ∙ ap (λ (a : Answer Steps). filled (onFigures (λ s. s .recording .file) a) (old .bytes)) same-calls in
+            claim-holds bs h x (lent demands plan′ (called .bytes) back′) answer (answers-all ∙ ap (onFigures answerOf) (sym same))
+            (lent-by l p file q ∙ ap (λ (a : Answer Steps). lentAfter a x) (sym same));
+        answers = answers-all;
+        plans = λ s e. subst (λ (a : Answer Planned). Filled (cuttingOf a) (old .plan) (called .plan)) (same-plan ∙ steps-found bs z s e .is-plan) (c .records);
+        reads = λ s e. subst (λ (a : Answer Steps). Filled (onFigures (λ t. t .recording .plan .buckets) a) (old .back) (called .back)) (same-calls ∙ e) (c .reads);
       }
 
-  pub booked-lists : (x : Booking) → answer ≡ figures x → BooksLists bs z old called answer
-  booked-lists x e =
-      let s = on-figures answerOf all (sym (c .answers) ∙ e) in
-      books (called .demands) (figures-left (s .0) (s .1))
-
-  pub refused-lists : (ds : List ℕ) → Front (old .demands) ds → (n : ℕ) → answer ≡ refused n → (demands : List ℕ) → demands ≡ restored ds (called .demands)
+  -- The T numbers spread are stored in the lent demands; after a refusal none are.
+  pub booked-lists : (x : Booking) → answer ≡ figures x → (demands : List ℕ) → demands ≡ filled (figures (take (x .plan .periods) (called .demands))) (old .demands)
       → BooksLists bs z old (lentLists demands (called .plan) (called .bytes) (called .back)) answer
-  refused-lists ds k n e demands g =
-      let r = on-refused answerOf all (sym (c .answers) ∙ e) in
-      books demands (subst Left (sym g) (refused-left ds k n r))
+  booked-lists x e demands d =
+      let s = on-figures answerOf all (sym answers-all ∙ e) in
+      let ds = s .0 .planning .demands in
+      let f = steps-found bs z (s .0) (s .1) in
+      let T : x .plan .periods ≡ length ds =
+      ap (λ (y : Booking). y .plan .periods) (sym (s .2)) ∙ ap (λ (y : Recorded). y .periods) (found-recorded bs z (s .0) f)
+      ∙ sym (ordered-count (is-planned (z .demands) room bs (s .0 .planning) (f .is-plan) .as-ordered)) in
+      let spread : called .demands ≡ filled (figures ds) own = c .spreads ∙ ap (λ (a : Answer Planned). filled (demandsOf a) own) (same-plan ∙ f .is-plan) in
+      let front : take (x .plan .periods) (called .demands) ≡ ds = ap₂ (λ (n : ℕ) (ys : List ℕ). take n ys) T spread ∙ filled-front ds own in
+      books demands
+      (d ∙ ap (λ (ys : List ℕ). filled (figures ys) (old .demands)) front ∙ ap (λ (a : Answer Steps). filled (onFigures (λ t. t .planning .demands) a) (old .demands)) (sym (s .1)))
+
+  pub refused-lists : (n : ℕ) → answer ≡ refused n → BooksLists bs z old (lentLists (old .demands) (called .plan) (called .bytes) (called .back)) answer
+  refused-lists n e =
+      let r = on-refused answerOf all (sym answers-all ∙ e) in
+      books (old .demands) (ap (λ (a : Answer Steps). filled (onFigures (λ t. t .planning .demands) a) (old .demands)) (sym r))
 
 -- ---- The records stored in the lent lists
 

@@ -1,5 +1,5 @@
 -- The list of calls on number lists, which hold the figures of the records: what it answers depends on the lengths of what is
--- lent alone, and what it leaves, call by call, before anything is put back.
+-- lent alone, and what it leaves, call by call.
 -- Assumes nothing.
 use Prim.Native.Nat.{ℕ}
 use mathlib.Core.Path.{_≡_, refl, sym, ap, subst, _∙_}
@@ -9,17 +9,16 @@ use Rattle.terms.specs.Answer.{Answer, figures, refused, onFigures, andThen}
 use Rattle.terms.specs.AnswerLaws.{on-refused, then-figures, then-refused}
 use Rattle.terms.specs.Lent.{filled}
 use Rattle.terms.specs.Records.{Cutting}
-use Rattle.order_file.specs.Ordered.{spreadFrom}
 use Rattle.record_list.specs.ListLaws.{lists-hold, lists-kept}
 use Rattle.record_list.specs.Lists.{RecordLists, Filled, recordsOf}
 use Rattle.plan_file.specs.declared.plans.PlanFigures.{PlanFigures}
 use Rattle.plan_file.specs.Plan.{planFile}
 use Rattle.planning.specs.declared.orders.PlannedOrder.{PlannedOrder}
-use Rattle.planning.specs.Planning.{Planned, planned, plannedFigures, cuttingOf}
+use Rattle.planning.specs.Planning.{Planned, planned, plannedFigures, cuttingOf, demandsOf}
 use Rattle.planning.specs.CallLaws.{PlansOrder, found-plan, trace-is, plan-is}
 use Rattle.recording.specs.declared.plans.Booking.{Booking}
 use Rattle.recording.specs.Recording.{Recording, recording, written, bookingOf}
-use Rattle.recording.specs.RecordingLaws.{RecordsPlan, readFrom}
+use Rattle.recording.specs.RecordingLaws.{RecordsPlan}
 use Rattle.booking.specs.Booking.{Lent, Steps, planFigures, answerOf}
 
 -- ---- The list of calls by the lengths of what is lent
@@ -46,10 +45,7 @@ module _ (z : Sizes) where
   fileIn x = planFile (z .plan) (z .bytes) (planFigures x) (x .cutting)
 
   abbrev pub writtenIn : Planned → Answer (List ℕ)
-  writtenIn x = written (z .back) (planFigures x) (fileIn x)
-
-  abbrev pub readIn : Planned → Answer Cutting
-  readIn x = readFrom (z .back) (planFigures x) (fileIn x)
+  writtenIn x = written (z .back) (x .order .tariff .factor) (planFigures x) (fileIn x)
 
   abbrev pub recordingIn : Planned → Answer Recording
   recordingIn x = recording (z .back) (planFigures x) (fileIn x) (x .order .tariff .factor) (x .demands)
@@ -72,10 +68,10 @@ lentLists ds l bs k = record { demands = ds; plan = l; bytes = bs; back = k }
 -- What the calls answer, and what each has left in what it was lent.
 pub record Called (bs : List ℕ) (z : Sizes) (old new : ListsLent) (answer : Answer Booking) : Type 0 where
   pub answers : answer ≡ onFigures answerOf (bookedIn z bs)
-  pub spreads : new .demands ≡ filled (spreadFrom (z .demands) bs) (old .demands)
+  pub spreads : new .demands ≡ filled (demandsOf (plannedIn z bs)) (old .demands)
   pub records : Filled (cuttingOf (plannedIn z bs)) (old .plan) (new .plan)
-  pub writes : new .bytes ≡ filled (andThen (plannedIn z bs) (writtenIn z)) (old .bytes)
-  pub reads : Filled (andThen (plannedIn z bs) (readIn z)) (old .back) (new .back)
+  pub writes : new .bytes ≡ filled (onFigures (λ s. s .recording .file) (bookedIn z bs)) (old .bytes)
+  pub reads : Filled (onFigures (λ s. s .recording .plan .buckets) (bookedIn z bs)) (old .back) (new .back)
 
 module _ (bs : List ℕ) (room space : ℕ) (old : ListsLent) (demands′ : List ℕ) (plan′ : RecordLists) (found : Answer PlannedOrder)
     (p : PlansOrder bs (old .demands) room (old .plan) demands′ plan′ found) where
@@ -89,8 +85,8 @@ module _ (bs : List ℕ) (room space : ℕ) (old : ListsLent) (demands′ : List
         answers = ap (onFigures answerOf) (then-refused _ _ e);
         spreads = p .spreads;
         records = p .records;
-        writes = ap (λ (a : Answer (List ℕ)). filled a (old .bytes)) (then-refused _ _ e);
-        reads = lists-kept _ (old .back) n (sym (then-refused _ _ e));
+        writes = ap (λ (a : Answer Steps). filled (onFigures (λ s. s .recording .file) a) (old .bytes)) (then-refused (plannedIn z bs) _ e);
+        reads = lists-kept _ (old .back) n (ap (onFigures (λ s. s .recording .plan .buckets)) (sym (then-refused (plannedIn z bs) _ e)));
       }
 
   module _ (y : PlannedOrder) (f : found ≡ figures y) where
@@ -100,9 +96,13 @@ module _ (bs : List ℕ) (room space : ℕ) (old : ListsLent) (demands′ : List
     abbrev x : Planned
     x = found-here .0
 
-    answers-so : (a : Answer Recording) → onFigures bookingOf a ≡ onFigures answerOf (onFigures (λ z. record { planning = x; recording = z }) a)
-    answers-so (figures z) = refl
-    answers-so (refused n) = refl
+    -- What is worked out from the recording is worked out from the steps.
+    from-steps : {A : Type 0} (part : Recording → A) → onFigures part (recordingIn z x) ≡ onFigures (λ s. part (s .recording)) (bookedIn z bs)
+    from-steps part = go (recordingIn z x) ∙ ap (onFigures (λ s. part (s .recording))) (then-figures (plannedIn z bs) _ (found-here .1))
+      where
+        go : (a : Answer Recording) → onFigures part a ≡ onFigures (λ (s : Steps). part (s .recording)) (onFigures (λ y. record { planning = x; recording = y }) a)
+        go (figures y) = refl
+        go (refused n) = refl
 
     abbrev figuresFor : PlannedOrder → PlanFigures
     figuresFor z = record { periods = z .order .periods; buckets = z .plan .buckets; cost = z .plan .cost }
@@ -125,9 +125,9 @@ module _ (bs : List ℕ) (room space : ℕ) (old : ListsLent) (demands′ : List
         let b = subst (λ (xs : Cutting). Recorded-by y (x .demands) xs bytes′ back′ answer) records-are a in
         let c = subst (λ (z : PlannedOrder). Recorded-by z (x .demands) (x .cutting) bytes′ back′ answer) (sym (found-here .2)) b in
         record {
-          answers = c .answers ∙ answers-so (recordingIn z x) ∙ ap (onFigures answerOf) (then-figures (plannedIn z bs) _ (found-here .1));
+          answers = c .answers ∙ from-steps bookingOf;
           spreads = p .spreads;
           records = p .records;
-          writes = c .writes ∙ ap (λ (d : Answer (List ℕ)). filled d (old .bytes)) (then-figures (plannedIn z bs) (writtenIn z) (found-here .1));
-          reads = subst (λ (d : Answer Cutting). Filled d (old .back) back′) (then-figures (plannedIn z bs) (readIn z) (found-here .1)) (c .reads);
+          writes = c .writes ∙ ap (λ (d : Answer (List ℕ)). filled d (old .bytes)) (from-steps (λ y. y .file));
+          reads = subst (λ (d : Answer Cutting). Filled d (old .back) back′) (from-steps (λ y. y .plan .buckets)) (c .reads);
         }

@@ -1,7 +1,6 @@
 -- The definitions that contracts cite, and their laws.
 pub mod Booking
 pub mod Claim
-pub mod FrontLaws
 pub mod BookingLaws
 pub mod CallLaws
 pub mod StepLaws

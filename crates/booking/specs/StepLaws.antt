@@ -2,16 +2,18 @@
 -- Assumes nothing.
 use Prim.Native.Nat.{ℕ, _≤_}
 use native.Mathlib.Omega.{arith}
-use mathlib.Core.Path.{_≡_, refl, sym, ap, subst, _∙_}
+use mathlib.Core.Path.{_≡_, refl, sym, ap, ap₂, subst, _∙_}
 use mathlib.Core.Bool.{Bool, true}
 use mathlib.Core.List.{List}
 use borrow.Author.Tests.{leb-true, le-leb}
 use lib.Dec.{leb}
 use lib.ListN.{length}
 use Rattle.terms.specs.declared.Tariff.{Tariff}
-use Rattle.terms.specs.Answer.{Answer, figures, refused, weigh, onFigures, andThen}
-use Rattle.terms.specs.AnswerLaws.{figures-refused, same-figures, weigh-figures, on-figures, then-figures, then-refused, then-found}
+use Rattle.terms.specs.Answer.{figures, weigh, onFigures}
+use Rattle.terms.specs.AnswerLaws.{same-figures, weigh-figures, on-figures, then-figures, then-found}
 use Rattle.terms.specs.Limits.{traceLimit}
+use Rattle.terms.specs.RangeLaws.{factor-ok}
+use Rattle.terms.specs.Ranges.{factorOk}
 use Rattle.terms.specs.Records.{Cutting}
 use Rattle.bucket.specs.Trace.{Demands}
 use Rattle.series.specs.Series.{trueCost}
@@ -33,6 +35,13 @@ use Rattle.booking.specs.CallLaws.{Sizes, plannedIn, fileIn, writtenIn, 
 -- The bytes of the plan found.
 abbrev pub fileOf : Planned → List ℕ
 fileOf x = planBytes (x .order .periods) (trueCost (x .order .tariff) (x .cutting)) (x .cutting)
+
+-- Where a plan is written, its records can be read back and its file is that of the plan found.
+written-figures : (z : Sizes) (x : Planned) (file : List ℕ) → writtenIn z x ≡ figures file → (length (x .cutting) ≤ z .back) × (fileIn z x ≡ figures file)
+written-figures z x file w =
+    let d = weigh-figures (factorOk (x .order .tariff .factor)) 5 _ w in
+    let e = weigh-figures (leb (length (x .cutting)) (z .back)) 6 (fileIn z x) (d .1) in
+    (leb-true _ _ (e .0), e .1)
 
 module _ (bs : List ℕ) (h : Bytes bs) (z : Sizes) (x : Planned) (is : IsPlanned (z .demands) (z .plan) bs x) where
   abbrev t : Tariff
@@ -65,15 +74,18 @@ module _ (bs : List ℕ) (h : Bytes bs) (z : Sizes) (x : Planned) (is : IsPlanne
 
   module _ (file : List ℕ) (w : writtenIn z x ≡ figures file) where
     pub written-read : readPlan (z .back) file ≡ figures recordedPlan
-    written-read =
-        let e = weigh-figures (leb (length cutting) (z .back)) 6 (fileIn z x) w in
-        file-read (z .plan) (z .bytes) (planFigures x) cutting file refl (e .1) (z .back) (leb-true _ _ (e .0))
+    written-read = let e = written-figures z x file w in file-read (z .plan) (z .bytes) (planFigures x) cutting file refl (e .1) (z .back) (e .0)
 
     pub file-recorded : recordingIn z x ≡ figures (recordingOf file)
     file-recorded =
         sym (then-figures (writtenIn z x) (readBack (z .back) (t .factor) (x .demands)) w)
         ∙ sym (then-figures (readPlan (z .back) file) (λ y. onFigures (λ ms. record { file = file; plan = y; meters = ms }) (metersOf (t .factor) (x .demands) (y .buckets))) written-read)
         ∙ ap (onFigures (λ ms. record { file = file; plan = recordedPlan; meters = ms })) (planned-meters .1)
+
+  -- Where the records found can be read back they are written: the order's factor is in its range.
+  pub written-is : length cutting ≤ z .back → writtenIn z x ≡ fileIn z x
+  written-is space =
+      ap₂ (λ (a b : Bool). weigh a 5 (weigh b 6 (fileIn z x))) (factor-ok (t .factor) (ordered-range (is .as-ordered) .1 .factor)) (le-leb (length cutting) (z .back) space)
 
   -- A plan is written where there is room for it.
   pub file-fits : length cutting ≤ z .back → planLength (length cutting) ≤ z .bytes → writtenIn z x ≡ figures (fileOf x)
@@ -83,7 +95,7 @@ module _ (bs : List ℕ) (h : Bytes bs) (z : Sizes) (x : Planned) (is : IsPlanne
       let k : length cutting ≤ z .plan = omega (arith, r .counts .few, series-room t (x .demands) (z .plan) cutting (is .series)) in
       let records = subst (λ (n : ℕ). RecordsRange n cutting) count (r .records) in
       let counts = subst (λ (n : ℕ). countsOk n (length cutting) ≡ true) count (counts-ok (length (x .demands)) (length cutting) (r .counts)) in
-      ap (λ (ok : Bool). weigh ok 6 (fileIn z x)) (le-leb (length cutting) (z .back) space)
+      written-is space
       ∙ write-figures (z .plan) (z .bytes) (planFigures x) cutting counts (le-leb _ _ (r .cost)) (le-leb _ _ k) (records-ok T cutting records) (le-leb _ _ room)
 
 -- ---- The whole list
@@ -95,24 +107,6 @@ module _ (bs : List ℕ) (h : Bytes bs) (z : Sizes) where
   steps-figures x is e file w =
       sym (then-figures (plannedIn z bs) (λ x. onFigures (λ y. record { planning = x; recording = y }) (recordingIn z x)) e)
       ∙ ap (onFigures (λ y. record { planning = x; recording = y })) (file-recorded bs h z x is file w)
-
-  -- Where the list ends with a refusal nothing was written and nothing read back.
-  pub record NotWritten : Type 0 where
-    pub number : ℕ
-    pub not-written : andThen (plannedIn z bs) (writtenIn z) ≡ refused number
-
-  pub steps-refused : (n : ℕ) → bookedIn z bs ≡ refused n → NotWritten
-  steps-refused n r = planning (plannedIn z bs) refl
-    where
-      planning : (a : Answer Planned) → plannedIn z bs ≡ a → NotWritten
-      planning (refused m) e = record { number = m; not-written = sym (then-refused _ _ e) }
-      planning (figures x) e = writing (writtenIn z x) refl
-        where
-          writing : (b : Answer (List ℕ)) → writtenIn z x ≡ b → NotWritten
-          writing (figures file) w =
-              let is = is-planned (z .demands) (z .plan) bs x e in
-              absurd (figures-refused (sym (steps-figures x is e file w) ∙ r))
-          writing (refused m) w = record { number = m; not-written = sym (then-figures (plannedIn z bs) (writtenIn z) e) ∙ w }
 
 -- What each call gave where the list ends with figures.
 pub record Found (bs : List ℕ) (z : Sizes) (s : Steps) : Type 0 where
@@ -145,14 +139,15 @@ module _ (bs : List ℕ) (z : Sizes) (s : Steps) (f : Found bs z s) where
   cut = s .planning .cutting
 
   written-so : (length cut ≤ z .back) × (fileIn z (s .planning) ≡ figures (s .recording .file))
-  written-so =
-      let e = weigh-figures (leb (length cut) (z .back)) 6 (fileIn z (s .planning)) (f .is-written) in
-      (leb-true _ _ (e .0), e .1)
+  written-so = written-figures z (s .planning) (s .recording .file) (f .is-written)
 
   pub found-back : length cut ≤ z .back
   found-back = written-so .0
 
+  -- what is read back is what was written
+  pub found-recorded : s .recording .plan ≡ record { periods = s .planning .order .periods; cost = trueCost (s .planning .order .tariff) cut; buckets = cut }
+  found-recorded =
+      same-figures (sym (f .is-read) ∙ file-read (z .plan) (z .bytes) (planFigures (s .planning)) cut (s .recording .file) refl (written-so .1) (z .back) found-back)
+
   pub found-same : s .recording .plan .buckets ≡ cut
-  found-same =
-      let e = file-read (z .plan) (z .bytes) (planFigures (s .planning)) cut (s .recording .file) refl (written-so .1) (z .back) found-back in
-      ap (λ (y : Recorded). y .buckets) (same-figures (sym (f .is-read) ∙ e))
+  found-same = ap (λ (y : Recorded). y .buckets) found-recorded

@@ -1,5 +1,5 @@
 // The list of calls that books an order, on number lists that hold the figures of the records. Public
-// only for this crate, which shows what is required and puts back what a refusal left changed.
+// only for this crate, which lends lists of its own and shows what is required.
 use plan_file::PlanFigures;
 use planning::orders::PlannedAnswer;
 use planning::orders::plan_order;

@@ -2,7 +2,6 @@
 // in one call.
 mod bookings;
 mod calls;
-mod fronts;
 mod lists;
 
 pub use bookings::book;

@@ -1,9 +1,11 @@
 // Booking on number lists that hold the figures of the records. Public only for this crate's call,
-// which shows what is required and stores the records in the lent lists.
+// which shows what is required and stores the records in the lent lists. The calls are made on a list
+// of demands of the booking's own, whose entries are stored in the lent one once the order is booked.
 use crate::calls::make_calls;
-use crate::fronts::keep;
-use crate::fronts::put_back;
+use order_file::spreads::store_demands;
 use recording::BookingAnswer;
+use terms::limits::TRACE_LIMIT;
+use terms::numbers::shorter;
 ghost use lib.ListN.{length};
 ghost use Rattle.record_list.specs.Lists.{Wide, lists};
 ghost use Rattle.recording.specs.Recording.{bookingSays};
@@ -32,10 +34,11 @@ pub fn book_lists(
         (now (bytes .exit)) (lists (now («back_runs» .exit)) (now («back_rates» .exit)) (now («back_depths» .exit))))
         (bookingSays r) ⌝ }
 {
-    let demands_before = keep(demands);
+    let mut trace = [0u16; TRACE_LIMIT];
+    let entries = shorter(demands.len(), TRACE_LIMIT);
     let answer = make_calls(
         order,
-        demands,
+        &mut trace[..entries],
         room,
         runs,
         rates,
@@ -46,9 +49,10 @@ pub fn book_lists(
         back_rates,
         back_depths,
     );
-    let BookingAnswer::Refused(_) = answer else {
+    let BookingAnswer::Booked(booked) = answer else {
         return answer;
     };
-    put_back(&demands_before, demands);
+    let periods = booked.plan.periods as usize;
+    store_demands(&trace[..periods], demands);
     answer
 }

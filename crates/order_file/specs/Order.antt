@@ -1,6 +1,7 @@
 -- The order file, written and read (01, "The two files"; refusals 1 to 6).
 -- Assumes nothing.
 use Prim.Native.Nat.{ℕ, _+_, _*_, _/_, _%_}
+use mathlib.Core.Path.{_≡_}
 use mathlib.Core.Bool.{Bool, _&&_}
 use mathlib.Core.List.{List, [], _∷_, _++_}
 use lib.Dec.{leb, eqb}
@@ -101,3 +102,10 @@ spreadOf room part = weigh (partOk (length part)) 3 (weigh (leb (length part / 2
 unfoldable pub writeOrder : ℕ → Tariff → List ℕ → Answer (List ℕ)
 writeOrder room t ds =
     weigh (periodsOk (length ds)) 3 (weigh (tariffOk t) 5 (weigh (leb (orderLength (length ds)) room) 6 (figures (orderBytes (length ds) t ds))))
+
+-- ---- There and back
+
+-- A file that is read is the very file that writing those figures, and the demands of its trace's part, gives (00, demand 2).
+abbrev pub VeryOrder : List ℕ → Answer Order → Type 0
+VeryOrder bs (figures o) = writeOrder (length bs) (o .tariff) (demandsIn (tracePart bs)) ≡ figures bs
+VeryOrder bs (refused n) = Unit {0}

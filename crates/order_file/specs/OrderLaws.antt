@@ -3,7 +3,7 @@
 -- Assumes nothing.
 use Prim.Native.Nat.{ℕ, _+_, _*_, _/_, _%_, _≤_}
 use native.Mathlib.Omega.{arith}
-use native.Mathlib.Nat.{mul-div-right, mul-mod-right, zero-lt-suc}
+use native.Mathlib.Nat.{le-refl, mul-div-right, mul-mod-right, zero-lt-suc}
 use mathlib.Core.Path.{_≡_, refl, sym, ap, ap₂, subst, _∙_}
 use mathlib.Core.Bool.{true}
 use mathlib.Core.List.{List, [], _∷_, _++_, append-nil}
@@ -12,7 +12,7 @@ use lib.Dec.{leb}
 use lib.ListN.{length, take, getD, length-drop, take-append-drop}
 use lib.Seq.{drop-at, take-all}
 use Rattle.terms.specs.declared.Tariff.{Tariff}
-use Rattle.terms.specs.Answer.{figures}
+use Rattle.terms.specs.Answer.{Answer, figures, refused}
 use Rattle.terms.specs.AnswerLaws.{same-figures, weigh-figures}
 use Rattle.terms.specs.Bools.{both-and}
 use Rattle.terms.specs.Limits.{traceLimit}
@@ -23,7 +23,7 @@ use Rattle.order_file.specs.declared.orders.Order.{Order}
 use Rattle.encoding.specs.Number.{bytesOf, numberAt, bytesOfAll, itemsAt}
 use Rattle.encoding.specs.NumberLaws.{Within, Fit, Bytes, fit-drop, fit-each, length-bytes, length-all, numbers-written, numbers-read}
 use Rattle.encoding.specs.HeaderLaws.{Placed}
-use Rattle.order_file.specs.Order.{orderLength, orderWords, orderBytes, tariffOffset, traceOffset, tariffIn, readOrder, tracePart, partOk, demandsIn, spreadOf, writeOrder}
+use Rattle.order_file.specs.Order.{orderLength, orderWords, orderBytes, tariffOffset, traceOffset, tariffIn, readOrder, tracePart, partOk, demandsIn, spreadOf, writeOrder, VeryOrder}
 use Rattle.order_file.specs.OrderRules.{OrderRules, rules-read, read-rules, part-read, spread-figures, length-header, length-order, length-demands, write-figures}
 
 -- ---- The words of an order
@@ -210,3 +210,8 @@ module _ (bs : List ℕ) (o : Order) (e : readOrder bs ≡ figures o) where
         let n = length-order (length demandsOf) (o .tariff) demandsOf in
         let m = le-leb (orderLength (length demandsOf)) room (omega (arith, ap length bytes-read, n)) in
         write-figures room (o .tariff) demandsOf (periods-ok _ p) (tariff-ok _ t) m ∙ ap figures bytes-read
+
+-- So whatever reading answers, the bytes are the very file of what was read.
+pub very-order : (bs : List ℕ) → Bytes bs → (a : Answer Order) → a ≡ readOrder bs → VeryOrder bs a
+very-order bs h (figures o) e = read-write bs o (sym e) h (length bs) (le-refl (length bs))
+very-order bs h (refused n) e = tt

@@ -1,19 +1,25 @@
 -- What reading an order and spreading its trace gives and leaves: the order's own figures, and as many demands as its T.
 -- Assumes nothing.
-use Prim.Native.Nat.{ℕ, _≤_}
+use Prim.Native.Nat.{ℕ, min, _/_, _≤_}
 use native.Mathlib.Omega.{arith}
+use native.Mathlib.Nat.{le-min}
 use mathlib.Core.Path.{_≡_, refl, sym, ap, subst, _∙_}
+use mathlib.Core.Bool.{Bool, true, false, _&&_}
 use mathlib.Core.List.{List}
+use borrow.Author.Tests.{leb-true}
+use lib.Dec.{leb}
 use lib.ListN.{length, take, length-take}
 use Rattle.terms.specs.Answer.{Answer, figures, refused, onFigures}
-use Rattle.terms.specs.AnswerLaws.{on-figures, on-refused, then-figures, then-refused, then-found}
+use Rattle.terms.specs.AnswerLaws.{figures-refused, weigh-figures, on-figures, on-refused, then-figures, then-refused, then-found}
+use Rattle.terms.specs.Bools.{leb-min}
 use Rattle.terms.specs.Lent.{filled}
+use Rattle.terms.specs.Limits.{traceLimit}
 use Rattle.terms.specs.LentLaws.{filled-front}
 use Rattle.terms.specs.RangeLaws.{TariffRange, PeriodsRange}
 use Rattle.order_file.specs.declared.orders.Order.{Order}
-use Rattle.order_file.specs.Order.{readOrder, tracePart, demandsIn, spreadOf}
+use Rattle.order_file.specs.Order.{readOrder, tracePart, partOk, demandsIn, spreadOf}
 use Rattle.order_file.specs.OrderLaws as orders
-use Rattle.order_file.specs.OrderRules.{orderIn, read-rules, spread-rules}
+use Rattle.order_file.specs.OrderRules.{orderIn, read-rules, length-demands, spread-full, spread-rules}
 use Rattle.order_file.specs.Ordered.{Ordered, ordered, spreadFrom, SpreadsOrder}
 
 -- Reading and spreading gave x.
@@ -50,6 +56,54 @@ module _ {space : ℕ} {bs : List ℕ} {x : Ordered} (p : IsOrdered space bs x) 
         subst PeriodsRange (sym (ordered-count ∙ ap (λ (o : Order). o .periods) ordered-as)) (r .periods),
         subst TariffRange (sym (ap (λ (o : Order). o .tariff) ordered-as)) (r .tariff),
       )
+
+-- ---- With another number of entries
+
+-- 512 entries are enough for any order. So what these give another number gives too where it is T or more, and 6 where it is less.
+module _ (bs : List ℕ) where
+  pub ordered-refused : (space n : ℕ) → ordered traceLimit bs ≡ refused n → ordered space bs ≡ refused n
+  ordered-refused space n e = go (readOrder bs) refl
+    where
+      go : (a : Answer Order) → readOrder bs ≡ a → ordered space bs ≡ refused n
+      go (figures o) r =
+          let T = read-rules bs o r in
+          let few : o .periods ≤ traceLimit = omega (arith, T .0 .periods .few, ap (λ (x : Order). x .periods) (T .1)) in
+          let x : Ordered = record { order = o; demands = demandsIn (tracePart bs) } in
+          absurd (figures-refused (sym (found-ordered traceLimit bs x (record { read = r; spread = orders.read-spread bs o r traceLimit few })) ∙ e))
+      go (refused m) r = sym (then-refused (readOrder bs) _ r) ∙ then-refused (readOrder bs) _ r ∙ e
+
+  module _ (x : Ordered) (e : ordered traceLimit bs ≡ figures x) where
+    all : IsOrdered traceLimit bs x
+    all = is-ordered traceLimit bs x e
+
+    pub ordered-found : (space : ℕ) → x .order .periods ≤ space → ordered space bs ≡ figures x
+    ordered-found space l =
+        found-ordered space bs x (record { read = all .read; spread = orders.read-spread bs (x .order) (all .read) space l ∙ ap figures (spread-demands all) })
+
+    pub ordered-short : (space : ℕ) → leb (x .order .periods) space ≡ false → ordered space bs ≡ refused 6
+    unfolding spreadOf
+    ordered-short space h =
+        let part = tracePart bs in
+        let ok = weigh-figures (partOk (length part)) 3 _ (all .spread) .0 in
+        let T : length part / 2 ≡ x .order .periods = sym (length-demands part) ∙ orders.demands-count bs (x .order) (all .read) in
+        sym (then-figures (readOrder bs) _ (all .read))
+        ∙ ap (onFigures (λ ds. record { order = x .order; demands = ds })) (spread-full space part ok (ap (λ (n : ℕ). leb n space) T ∙ h))
+
+  pub ordered-min : (n : ℕ) → ordered (min n traceLimit) bs ≡ ordered n bs
+  ordered-min n = go (ordered traceLimit bs) refl
+    where
+      go : (a : Answer Ordered) → ordered traceLimit bs ≡ a → ordered (min n traceLimit) bs ≡ ordered n bs
+      go (refused m) e = ordered-refused (min n traceLimit) m e ∙ sym (ordered-refused n m e)
+      go (figures x) e = weighed (leb (x .order .periods) n) refl
+        where
+          few : x .order .periods ≤ traceLimit
+          few = omega (arith, ordered-count (is-ordered traceLimit bs x e), ordered-range (is-ordered traceLimit bs x e) .0 .few)
+
+          weighed : (b : Bool) → leb (x .order .periods) n ≡ b → ordered (min n traceLimit) bs ≡ ordered n bs
+          weighed true h = let l = leb-true _ _ h in ordered-found x e (min n traceLimit) (le-min l few) ∙ sym (ordered-found x e n l)
+          weighed false h =
+              ordered-short x e (min n traceLimit) (sym (leb-min (x .order .periods) n traceLimit) ∙ ap (λ (b : Bool). b && leb (x .order .periods) traceLimit) h)
+              ∙ sym (ordered-short x e n h)
 
 -- ---- Call by call
 

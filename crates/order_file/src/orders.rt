@@ -22,7 +22,7 @@ ghost use Rattle.terms.specs.Lent.{filled};
 ghost use Rattle.terms.specs.RangeLaws.{PeriodsRange};
 ghost use Rattle.encoding.specs.Fill.{fillSays};
 ghost use Rattle.encoding.specs.Number.{bytesOf, bytesOfAll};
-ghost use Rattle.order_file.specs.Order.{orderSays, orderWords, readOrder, tariffIn, tracePart, writeOrder};
+ghost use Rattle.order_file.specs.Order.{orderSays, orderWords, readOrder, tariffIn, tracePart, VeryOrder, writeOrder};
 
 const ORDER_KIND: u32 = 1;
 
@@ -41,9 +41,11 @@ pub enum OrderAnswer {
     Refused(Refusal),
 }
 
-// Reads an order from any bytes: T and the tariff; or refusal 1, 2, 3, 4 or 5.
+// Reads an order from any bytes: T and the tariff; or refusal 1, 2, 3, 4 or 5. Bytes that are read are
+// the very file that writing those figures gives.
 pub fn read_order(bytes: &[u8]) -> OrderAnswer
     ensures { λ r. ⌜ orderSays r ≡ readOrder (now (bytes .entry)) ⌝ }
+    ensures { λ r. ⌜ VeryOrder (now (bytes .entry)) (orderSays r) ⌝ }
 {
     if bytes.len() < TARIFF_OFFSET {
         return OrderAnswer::Refused(Refusal::Short);

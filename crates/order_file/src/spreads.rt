@@ -1,10 +1,15 @@
-// An order read and its trace spread, in one. Public only for the crates above, whose calls begin with
-// it.
+// An order read and its trace spread, in one, and demands stored in a lent list. Public only for the
+// crates above, whose calls begin with the one and end with the other.
 use crate::orders::OrderAnswer;
 use crate::orders::read_order;
 use crate::orders::trace_part;
 use crate::traces::spread;
 use encoding::FillAnswer;
+ghost use Prim.Native.Nat.{_≤_};
+ghost use mathlib.Core.Path.{_≡_};
+ghost use lib.ListN.{length};
+ghost use Rattle.terms.specs.Answer.{figures};
+ghost use Rattle.terms.specs.Lent.{filled};
 ghost use Rattle.order_file.specs.Order.{orderSays};
 ghost use Rattle.order_file.specs.Ordered.{SpreadsOrder};
 
@@ -20,5 +25,17 @@ pub fn spread_order(order: &[u8], demands: &mut [u16]) -> OrderAnswer
     match spread(trace_part(order), demands) {
         FillAnswer::Filled(_) => OrderAnswer::Read(found),
         FillAnswer::Refused(why) => OrderAnswer::Refused(why),
+    }
+}
+
+// Stores demands at the front of a list with room for them.
+pub fn store_demands(demands: &[u16], list: &mut [u16])
+    requires { ⌜ length (now demands) ≤ length (now list) ⌝ }
+    ensures { λ _. ⌜ now (list .exit) ≡ filled (figures (now (demands .entry))) (now (list .entry)) ⌝ }
+{
+    let mut i = 0;
+    while i < demands.len() {
+        list[i] = demands[i];
+        i += 1;
     }
 }

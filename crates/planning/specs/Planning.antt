@@ -40,3 +40,6 @@ plannedFigures x = record { order = x .order; plan = record { buckets = length (
 
 abbrev pub cuttingOf : Answer Planned → Answer Cutting
 cuttingOf = onFigures (λ x. x .cutting)
+
+abbrev pub demandsOf : Answer Planned → Answer (List ℕ)
+demandsOf = onFigures (λ x. x .demands)

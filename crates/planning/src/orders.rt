@@ -1,12 +1,13 @@
-// The calls up to planning. Public only for the crates above: after a refusal to plan the demands stay
-// spread.
+// The calls up to planning. Public only for the crates above, which show what is required.
 use order_file::Order;
 use order_file::OrderAnswer;
 use order_file::spreads::spread_order;
+use order_file::spreads::store_demands;
 use series::Plan;
 use series::SeriesAnswer;
 use series::lists::plan_lists;
 use terms::Refusal;
+use terms::limits::TRACE_LIMIT;
 ghost use mathlib.Core.Path.{_≡_};
 ghost use Rattle.terms.specs.Answer.{onFigures};
 ghost use Rattle.record_list.specs.Lists.{Wide, lists};
@@ -25,9 +26,10 @@ pub enum PlannedAnswer {
     Refused(Refusal),
 }
 
-// Reads the order, spreads its trace's part into the demands, and plans the series with the tariff
-// read and the numbers so spread, for a list of `room` records, whose figures fill the lists. After a
-// refusal to plan the demands stay spread.
+// Reads the order, spreads its trace's part, and plans the series with the tariff read and the numbers
+// so spread, for a list of `room` records, whose figures fill the lists. The trace is spread into an
+// array, which has room for any order, and stored in the demands once a plan is found: after a refusal
+// everything lent is as it was.
 pub fn plan_order(
     order: &[u8],
     demands: &mut [u16],
@@ -42,14 +44,23 @@ pub fn plan_order(
         (now (demands .exit)) (lists (now (runs .exit)) (now (rates .exit)) (now (depths .exit)))
         (plannedSays r) ⌝ }
 {
-    let found = match spread_order(order, demands) {
+    let mut trace = [0u16; TRACE_LIMIT];
+    let found = match spread_order(order, &mut trace) {
         OrderAnswer::Read(x) => x,
         OrderAnswer::Refused(why) => return PlannedAnswer::Refused(why),
     };
     let periods = found.periods as usize;
+    if demands.len() < periods {
+        return PlannedAnswer::Refused(Refusal::List);
+    }
     let tariff = found.tariff;
-    let plan = plan_lists(&demands[..periods], tariff, room, runs, rates, depths);
-    with_order(found, plan)
+    let plan = plan_lists(&trace[..periods], tariff, room, runs, rates, depths);
+    let answer = with_order(found, plan);
+    let PlannedAnswer::Found(_) = answer else {
+        return answer;
+    };
+    store_demands(&trace[..periods], demands);
+    answer
 }
 
 // The plan found with what the order says, or the refusal.

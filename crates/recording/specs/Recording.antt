@@ -6,6 +6,7 @@ use lib.Dec.{leb}
 use lib.ListN.{length, take, drop}
 use Rattle.terms.specs.declared.Factor.{Factor}
 use Rattle.terms.specs.Answer.{Answer, figures, refused, weigh, onFigures, andThen}
+use Rattle.terms.specs.Ranges.{factorOk}
 use Rattle.terms.specs.Records.{Cutting, runLength, total}
 use Rattle.terms.specs.Refusals.{numberOf}
 use Rattle.meter.specs.declared.meters.Meter.{Meter}
@@ -23,10 +24,10 @@ pub record Recording : Type 0 where
   pub plan : Recorded
   pub meters : List Meter
 
--- The plan is written; `file` is what writing it gives. That its records can be read back into `space` entries is weighed first,
--- so that a refusal comes before anything is written.
-abbrev pub written : ℕ → PlanFigures → Answer (List ℕ) → Answer (List ℕ)
-written space x file = weigh (leb (x .buckets) space) 6 file
+-- The plan is written; `file` is what writing it gives. That a meter can be opened with the factor, and that the records can be read
+-- back into `space` entries, is weighed first, so that a refusal comes before anything is written.
+abbrev pub written : ℕ → Factor → PlanFigures → Answer (List ℕ) → Answer (List ℕ)
+written space f x file = weigh (factorOk f) 5 (weigh (leb (x .buckets) space) 6 file)
 
 -- Run by run a meter is opened on the recorded bucket with the factor and is offered the run's demands, first to last.
 unfoldable pub metersOf : Factor → List ℕ → Cutting → Answer (List Meter)
@@ -39,7 +40,7 @@ readBack space f ds file = andThen (readPlan space file) (λ y. onFigures (λ ms
 
 -- … all of these, one after the other.
 abbrev pub recording : ℕ → PlanFigures → Answer (List ℕ) → Factor → List ℕ → Answer Recording
-recording space x file f ds = andThen (written space x file) (readBack space f ds)
+recording space x file f ds = andThen (written space f x file) (readBack space f ds)
 
 -- ---- What is answered
 

@@ -10,6 +10,7 @@ use plan_file::lists::read_lists;
 use plan_file::lists::write_lists;
 use terms::Factor;
 use terms::Refusal;
+use terms::factor_in_range;
 ghost use mathlib.Core.Path.{_≡_};
 ghost use lib.ListN.{length};
 ghost use Rattle.terms.specs.Answer.{onFigures};
@@ -33,7 +34,8 @@ pub enum BookingAnswer {
 }
 
 // Writes the plan from a list of `room` records, whose figures stand in the lists, reads the front of
-// those bytes back for a list of `space` records, and meters each run of the trace.
+// those bytes back for a list of `space` records, and meters each run of the trace. All that could be
+// refused after writing is weighed before it: after a refusal everything lent is as it was.
 pub fn record_plan(
     plan: PlanFigures,
     factor: Factor,
@@ -58,6 +60,9 @@ pub fn record_plan(
         (now (bytes .exit)) (lists (now («back_runs» .exit)) (now («back_rates» .exit)) (now («back_depths» .exit)))
         (bookingSays r) ⌝ }
 {
+    if !factor_in_range(factor) {
+        return BookingAnswer::Refused(Refusal::Figure);
+    }
     let buckets = plan.buckets as usize;
     if space < buckets {
         return BookingAnswer::Refused(Refusal::List);

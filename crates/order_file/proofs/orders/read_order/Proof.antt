@@ -1,4 +1,4 @@
--- Each refusal is the first rule that its test finds broken; past the tests the figures are those of the bytes.
+-- Each refusal is the first rule that its test finds broken; past the tests the figures are those of the bytes, which they give again.
 use Prim.Native.Nat.{ℕ}
 use native.Mathlib.Omega.{arith}
 use mathlib.Core.Path.{_≡_, sym, ap, _∙_}
@@ -6,12 +6,15 @@ use mathlib.Core.Bool.{true}
 use borrow.Author.Tests.{le-leb, lt-leb, eq-eqb, ne-eqb}
 use lib.Dec.{leb, eqb}
 use lib.ListN.{length}
+use Rattle.terms.specs.Answer.{figures}
 use Rattle.terms.specs.Bools.{check-passed, check-failed}
 use Rattle.terms.specs.Ranges.{periodsOk, tariffOk}
 use Rattle.encoding.specs.Number.{numberAt}
 use Rattle.encoding.specs.Header.{placedAs}
 use Rattle.encoding.specs.HeaderLaws.{placed-range}
-use Rattle.order_file.specs.Order.{orderKind, orderLength, tariffOffset, traceOffset}
+use Rattle.encoding.specs.NumberLaws.{Bytes}
+use Rattle.order_file.specs.Order.{orderKind, orderLength, readOrder, tariffOffset, traceOffset}
+use Rattle.order_file.specs.OrderLaws.{very-order}
 use Rattle.order_file.specs.OrderRules.{orderPlaced, order-short, order-foreign, order-periods, order-misplaced, order-figure, order-figures}
 use borrow.Author.Needs.{needs}
 use Rattle.order_file.proofs.orders.read_order.Statement.{statement}
@@ -35,13 +38,13 @@ places c =
     ∙ check-passed (c .before .placed .ensures) (c .if4 .left)
 
 returns : tie.Need-returns
-returns c = sym (order-short _ (lt-leb _ _ (c .if1 .taken)))
+returns c = (sym (order-short _ (lt-leb _ _ (c .if1 .taken))), tt)
 
 word-at-requires : tie.Need-word-at-requires
 word-at-requires c κs = search needs
 
 returns-2 : tie.Need-returns-2
-returns-2 c = sym (order-foreign _ (long (c .before .before)) (ne-eqb _ _ (λ e. c .if2 .taken (c .before .word-at .ensures ∙ e))))
+returns-2 c = (sym (order-foreign _ (long (c .before .before)) (ne-eqb _ _ (λ e. c .if2 .taken (c .before .word-at .ensures ∙ e)))), tt)
 
 word-at-requires-2 : tie.Need-word-at-requires-2
 word-at-requires-2 c κs = search needs
@@ -56,7 +59,7 @@ returns-3 : tie.Need-returns-3
 returns-3 c =
     let d = c .before .before .before in
     let e = ap periodsOk (sym (c .before .before .word-at2 .ensures)) ∙ check-failed (c .before .periods-in-range .ensures) (c .if3 .taken) in
-    sym (order-periods _ (long (d .before .before)) (kind d) e)
+    (sym (order-periods _ (long (d .before .before)) (kind d) e), tt)
 
 cast-length : tie.Need-cast-length
 cast-length c = search needs
@@ -76,7 +79,7 @@ returns-4 c =
     let k = d .before .before .before in
     let bs = k .before .before .before .before .args .bytes .now in
     let e = ap (λ (n : ℕ). placedAs 8 tariffOffset traceOffset (orderLength n) bs) (sym (d .before .before .word-at2 .ensures)) in
-    sym (order-misplaced _ (long (k .before .before)) (kind k) (counts d) (e ∙ check-failed (c .before .placed .ensures) (c .if4 .taken)))
+    (sym (order-misplaced _ (long (k .before .before)) (kind k) (counts d) (e ∙ check-failed (c .before .placed .ensures) (c .if4 .taken))), tt)
 
 tariff-in-requires : tie.Need-tariff-in-requires
 tariff-in-requires c κs =
@@ -92,7 +95,7 @@ returns-5 c =
     let d = p .before .before in
     let k = d .before .before .before in
     let e = ap tariffOk (sym (c .before .before .tariff-in .ensures)) ∙ check-failed (c .before .tariff-in-range .ensures) (c .if5 .taken) in
-    sym (order-figure _ (long (k .before .before)) (kind k) (counts d) (places p) e)
+    (sym (order-figure _ (long (k .before .before)) (kind k) (counts d) (places p) e), tt)
 
 returns-6 : tie.Need-returns-6
 returns-6 c =
@@ -100,8 +103,11 @@ returns-6 c =
     let d = p .before .before in
     let k = d .before .before .before in
     let e = ap tariffOk (sym (c .before .before .tariff-in .ensures)) ∙ check-passed (c .before .tariff-in-range .ensures) (c .if5 .left) in
-    rw (d .before .before .word-at2 .ensures, c .before .before .tariff-in .ensures)
-    (sym (order-figures _ (long (k .before .before)) (kind k) (counts d) (places p) e))
+    let s = k .before .before .before .before in
+    let read : figures (record { periods = d .before .before .word-at2 .result; tariff = c .before .before .tariff-in .result }) ≡ readOrder (s .args .bytes .now) =
+    rw (d .before .before .word-at2 .ensures, c .before .before .tariff-in .ensures) (sym (order-figures _ (long (k .before .before)) (kind k) (counts d) (places p) e)) in
+    let bytes : Bytes (s .args .bytes .now) = record { each = λ i. omega (arith, k .before .before .before .shared-slice-known .given i) } in
+    (read, very-order (s .args .bytes .now) bytes _ read)
 
 pub read-order-spec : {M : Type 1} → statement M
 read-order-spec =

@@ -13,7 +13,7 @@ use Rattle.order_file.proofs.orders.trace_part.Statement.{statement}
 use Rattle.order_file.proofs.orders.trace_part.Tie as tie
 
 is-read : (c : tie.After-enum-told) → (o : Order) × (readOrder (c .before .before .before .before .args .bytes .now) ≡ figures o)
-is-read c = (_, sym (c .before .before .read-order .ensures) ∙ ap orderSays (c .enum-told .given .1))
+is-read c = (_, sym (c .before .before .read-order .ensures .0) ∙ ap orderSays (c .enum-told .given .1))
 
 begins : (c : tie.After-enum-told) → traceOffset ≤ length (c .before .before .before .before .args .bytes .now)
 begins c = let r = read-rules _ _ (is-read c .1) .0 in omega (arith, r .placed .bytes)
@@ -43,7 +43,7 @@ returns : tie.Need-returns
 returns c = part-to-end (c .before .before .before .before .before .args .bytes .now) traceOffset ∙ sym (part-read _ _ (is-read (c .before) .1))
 
 returns-2 : tie.Need-returns-2
-returns-2 c = sym (part-refused _ _ (sym (c .before .before .before .read-order .ensures) ∙ ap orderSays (c .before .enum-told2 .given .1)))
+returns-2 c = sym (part-refused _ _ (sym (c .before .before .before .read-order .ensures .0) ∙ ap orderSays (c .before .enum-told2 .given .1)))
 
 pub trace-part-spec : {M : Type 1} → statement M
 trace-part-spec =

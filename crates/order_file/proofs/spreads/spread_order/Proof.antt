@@ -12,7 +12,7 @@ abbrev order-at : tie.After-spread → tie.After-x
 order-at w = w .before .before .before .before
 
 read : (x : tie.After-x) → readOrder (x .before .before .before .before .before .args .order .now) ≡ figures (x .x .given .0 .0)
-read x = sym (x .before .before .read-order .ensures) ∙ ap orderSays (x .x .given .1)
+read x = sym (x .before .before .read-order .ensures .0) ∙ ap orderSays (x .x .given .1)
 
 read-order-requires : tie.Need-read-order-requires
 read-order-requires c κs = search needs
@@ -24,7 +24,7 @@ enum-known-why : tie.Need-enum-known-why
 enum-known-why c = search needs
 
 returns : tie.Need-returns
-returns c = order-refused _ _ _ (sym (c .before .before .before .read-order .ensures) ∙ ap orderSays (c .before .why .given .1))
+returns c = order-refused _ _ _ (sym (c .before .before .before .read-order .ensures .0) ∙ ap orderSays (c .before .why .given .1))
 
 trace-part-requires : tie.Need-trace-part-requires
 trace-part-requires c κs = search needs
