@@ -1,6 +1,7 @@
 -- The plan file, written and read (01, "The two files"; refusals 1 to 6).
 -- Assumes nothing.
 use Prim.Native.Nat.{ℕ, _+_, _*_}
+use mathlib.Core.Path.{_≡_}
 use mathlib.Core.Bool.{Bool, true, _&&_}
 use mathlib.Core.List.{List, [], _∷_, _++_}
 use lib.Dec.{leb, eqb}
@@ -126,3 +127,10 @@ planFile space room x xs =
 -- What writing gives: the file of the first k records of the lent list.
 abbrev pub writePlan : ℕ → PlanFigures → Cutting → Answer (List ℕ)
 writePlan room x list = planFile (length list) room x (take (x .buckets) list)
+
+-- ---- There and back
+
+-- A file that is read is the very file that writing those figures and records gives (00, demand 2).
+abbrev pub VeryPlan : List ℕ → Answer Recorded → Type 0
+VeryPlan bs (figures x) = writePlan (length bs) (record { periods = x .periods; buckets = length (x .buckets); cost = x .cost }) (x .buckets) ≡ figures bs
+VeryPlan bs (refused n) = Unit {0}

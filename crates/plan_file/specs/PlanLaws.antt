@@ -2,6 +2,7 @@
 -- what writing those figures and records gives.
 -- Assumes nothing.
 use Prim.Native.Nat.{ℕ, zero, suc, _+_, _*_, _≤_, _<_}
+use native.Mathlib.Nat.{le-refl}
 use native.Mathlib.Omega.{arith}
 use mathlib.Core.Path.{_≡_, sym, ap, ap₂, subst, _∙_}
 use mathlib.Core.List.{List, [], _∷_, _++_, append-nil, append-assoc}
@@ -9,7 +10,7 @@ use borrow.Author.Tests.{le-leb}
 use lib.ListN.{length, take, drop, getD, length-drop, take-append-drop}
 use lib.Seq.{length-take-le, take-add, take-all}
 use Rattle.terms.specs.declared.BucketRecord.{BucketRecord}
-use Rattle.terms.specs.Answer.{figures}
+use Rattle.terms.specs.Answer.{Answer, figures, refused}
 use Rattle.terms.specs.Limits.{costLimit}
 use Rattle.terms.specs.Records.{Cutting, Each, recordOf, runLength, runRate, runDepth, total}
 use Rattle.plan_file.specs.declared.plans.PlanFigures.{PlanFigures}
@@ -18,8 +19,8 @@ use Rattle.encoding.specs.NumberLaws.{Within, Bytes, numbers-written, numbers-r
 use Rattle.encoding.specs.HeaderLaws.{Placed}
 use Rattle.record_list.specs.ListLaws.{noRecord}
 use Rattle.plan_file.specs.RecordLaws.{RecordsRange, records-ok}
-use Rattle.plan_file.specs.Plan.{Recorded, costOffset, bucketsOffset, planLength, planWords, planBytes, recordBytes, recordAt, recordsIn, planIn, readPlan, planFile, writePlan}
-use Rattle.plan_file.specs.PlanRules.{PlanRules, CountsRange, counts-ok, bucketsIn, recordedIn, rules-read, read-rules, read-fits, write-figures, write-rules, length-head, length-record, length-plan}
+use Rattle.plan_file.specs.Plan.{Recorded, costOffset, bucketsOffset, planLength, planWords, planBytes, recordBytes, recordAt, recordsIn, planIn, readPlan, planFile, writePlan, VeryPlan}
+use Rattle.plan_file.specs.PlanRules.{PlanRules, CountsRange, counts-ok, bucketsIn, recordedIn, rules-read, read-rules, read-fits, read-holds, write-figures, write-rules, length-head, length-record, length-plan}
 
 -- ---- One record
 
@@ -189,3 +190,10 @@ pub read-write : (bs : List ℕ) → Bytes bs → (x : Recorded) → planIn bs �
 read-write bs h x e =
     let r = read-rules bs x e in
     subst (λ (y : Recorded). Writes y bs) (sym (r .1)) (rules-write bs h (r .0))
+
+-- So whatever reading into a list answers, the bytes are the very file of what was read.
+pub very-plan : (bs : List ℕ) → Bytes bs → (room : ℕ) (a : Answer Recorded) → readPlan room bs ≡ a → VeryPlan bs a
+very-plan bs h room (figures x) e =
+    let n = length (x .buckets) in
+    read-write bs h x (read-holds room bs x e) (x .buckets) (take-all n (x .buckets) (le-refl n)) (le-refl n) (length bs) (le-refl (length bs))
+very-plan bs h room (refused m) e = tt

@@ -11,7 +11,7 @@ use lib.ListN.{length, length-map, length-append}
 use lib.Seq.{sets}
 use Rattle.terms.specs.declared.BucketRecord.{BucketRecord}
 use Rattle.terms.specs.Answer.{Answer, figures, refused, weigh}
-use Rattle.terms.specs.AnswerLaws.{same-figures, weigh-figures, on-figures, then-figures, then-refused}
+use Rattle.terms.specs.AnswerLaws.{same-figures, weigh-figures, on-figures, then-figures, then-refused, then-found}
 use Rattle.terms.specs.Bools.{and-three, both-and}
 use Rattle.terms.specs.Limits.{costLimit, traceLimit}
 use Rattle.terms.specs.Ranges.{periodsOk}
@@ -159,6 +159,12 @@ plan-few bs y e =
     omega (arith, is-plan bs y e .is-count, c .few, c .periods .few)
 
 -- A plan that is read fits a list that has room for its records.
+-- What reading into a list gives is what the file holds.
+pub read-holds : (room : ℕ) (bs : List ℕ) (x : Recorded) → readPlan room bs ≡ figures x → planIn bs ≡ figures x
+read-holds room bs x e =
+    let f = then-found (planIn bs) (fitting room) e in
+    f .1 ∙ weigh-figures (leb (length (f .0 .buckets)) room) 6 (figures (f .0)) (f .2) .1
+
 pub read-fits : (room : ℕ) (bs : List ℕ) (x : Recorded) → planIn bs ≡ figures x → length (x .buckets) ≤ room → readPlan room bs ≡ figures x
 read-fits room bs x e l = sym (then-figures (planIn bs) (fitting room) e) ∙ ap (λ (ok : Bool). weigh ok 6 (figures x)) (le-leb _ _ l)
 

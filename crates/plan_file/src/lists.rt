@@ -25,7 +25,7 @@ ghost use Rattle.terms.specs.Lent.{filled};
 ghost use Rattle.encoding.specs.Fill.{fillSays};
 ghost use Rattle.encoding.specs.Number.{bytesOf, bytesOfAll};
 ghost use Rattle.record_list.specs.Lists.{Filled, Wide, lists, recordsOf};
-ghost use Rattle.plan_file.specs.Plan.{bucketsOf, countsOk, figuresOf, planFile, planIn, planSays, planWords, readPlan};
+ghost use Rattle.plan_file.specs.Plan.{bucketsOf, countsOk, figuresOf, planFile, planIn, planSays, planWords, readPlan, VeryPlan};
 
 const PLAN_KIND: u32 = 2;
 
@@ -46,6 +46,7 @@ pub fn read_lists(
     ensures { λ _. ⌜ Filled (bucketsOf (readPlan room (now (bytes .entry))))
         (lists (now (runs .entry)) (now (rates .entry)) (now (depths .entry)))
         (lists (now (runs .exit)) (now (rates .exit)) (now (depths .exit))) ⌝ }
+    ensures { λ _. ⌜ VeryPlan (now (bytes .entry)) (readPlan room (now (bytes .entry))) ⌝ }
 {
     let answer = plan_in(bytes);
     let PlanAnswer::Read(plan) = answer else {
