@@ -10,9 +10,9 @@ USES = ['use native.Mathlib.Nat.{le-trans}', 'use Rattle.terms.specs.Answer.{An
 WIDE = [('wide', 'Wide zeros zeros zeros', 'wide-zeros')]
 
 
-def filling(mod, name, verb, does, inner, answer, says, of, cutting, shown, params, types, uses):
+def filling(mod, name, verb, does, inner, answer, says, of, cutting, shown, params, types, uses, more=()):
     """A call that lends local arrays to `inner` and stores the records of the answer. The definition's answer is over
-    `of`: its records are `cutting`, and what the call answers is `shown`."""
+    `of`: its records are `cutting`, and what the call answers is `shown`. `more`: facts of `inner` that are handed on."""
     enum = answer.split('::')[-1]
     said = '%s %%s ≡ %s' % (says, shown)
     count = 'counted (λ x. x .buckets) (%s %%s)' % says
@@ -28,14 +28,15 @@ def filling(mod, name, verb, does, inner, answer, says, of, cutting, shown, para
         calls=[
             Call(verb, inner, needs='wide', out='answer', new=['lengths', 'rates', 'depths'],
                  ens=[('answered', said % 'answer'),
-                      ('held', 'Filled (%s) %s %s' % (cutting, before, after % ('@', '@', '@')))]),
+                      ('held', 'Filled (%s) %s %s' % (cutting, before, after % ('@', '@', '@')))] + list(more)),
             Call('counting', 'plans::%s::buckets_of' % mod, out='count', ens=[('counted', 'count ≡ ' + count % 'answer')]),
             Call('storing', 'record_list::copies::store_records', new=['after'],
                  needs='stores answer count answered counted lengths rates depths lengths-long rates-long depths-long',
                  ens=[('stored', '@after ≡ filled (figures (recordsOf count lengths rates depths)) list')]),
         ],
-        ensures='answered, stored ∙ stored-answer (%s) %s %s held list count (is-count answer count answered counted)'
-        % (cutting, before, after % ('', '', '')),
+        ensures=', '.join(
+            ['answered', 'stored ∙ stored-answer (%s) %s %s held list count (is-count answer count answered counted)'
+             % (cutting, before, after % ('', '', ''))] + [name for name, _ in more]),
         uses=USES + uses,
         inner='''
 -- As many records are stored as the answer has, and they fit.
@@ -62,7 +63,8 @@ READING = filling(
     'files', 'read_plan', 'reading', 'reads', 'plan_file::lists::read_lists', 'plan_file::plans::PlanAnswer', 'planSays',
     '(length list) bytes', 'bucketsOf (%s)' % READ, 'figuresOf (%s)' % READ, ['bytes', 'list'], [],
     ['use Rattle.plan_file.specs.CallLaws.{count-is, count-fits}',
-     'use Rattle.plan_file.specs.Plan.{bucketsOf, figuresOf, planSays, readPlan}'])
+     'use Rattle.plan_file.specs.Plan.{bucketsOf, figuresOf, planSays, readPlan, VeryPlan}'],
+    more=[('very', 'VeryPlan bytes (%s)' % READ)])
 
 FILE = 'planFile (length list) (length bytes) figs (recordsOf (figs .buckets) lengths rates depths)'
 SAME = ('loaded-records (length bytes) figs list (lists zeros zeros zeros) (lists lengths rates depths) '

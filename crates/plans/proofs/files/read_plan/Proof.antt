@@ -52,7 +52,7 @@ use Rattle.terms.specs.Lent.{filled}
 use Rattle.record_list.specs.Lists.{Filled, Wide, lists, recordsOf, roomOf, counted}
 use Rattle.record_list.specs.ListLaws.{stored-answer, room-is, wide-zeros}
 use Rattle.plan_file.specs.CallLaws.{count-is, count-fits}
-use Rattle.plan_file.specs.Plan.{bucketsOf, figuresOf, planSays, readPlan}
+use Rattle.plan_file.specs.Plan.{bucketsOf, figuresOf, planSays, readPlan, VeryPlan}
 use Rattle.terms.specs.declared.BucketRecord.{BucketRecord}
 use Rattle.terms.proofs.BucketRecord as T
 use Rattle.plan_file.specs.declared.plans.PlanAnswer.{PlanAnswer}
@@ -159,69 +159,70 @@ module _ {M : Type 1} (𝓤 : URA M) (H : Heap 𝓤) (A : Atoms 𝓤) (W : Given
 
       module _ (zeros : List ℕ) (answer : PlanAnswer) (answer-val : Val) (answer-is : Is An.the-row answer (answer-val ∷ [])) (lengths rates depths : List ℕ)
           (answered : planSays answer ≡ figuresOf (readPlan (length list) bytes)) (held : Filled (bucketsOf (readPlan (length list) bytes))
-          (lists zeros zeros zeros) (lists lengths rates depths)) (count : ℕ) (counted : count ≡ counted (λ x. x .buckets) (planSays answer)) (α₄ α₅ α₆ : ℕ)
-          (after : List BucketRecord) (after-long : length after ≡ length list) (stored : after ≡ filled (figures (recordsOf count lengths rates depths)) list)
-        where
-          exits : ent 𝓤 (⋆ 𝓤 H A (‵ (flft κ₀ q₀) ∷ ‵ (flft κ₁ q₁) ∷ ‵ (ShrSlice (named 0) κ₀ u8 .own x₀ (s₀ ∷ [])) ∷ ‵ (finally T.the-row γ₁ after) ∷ []))
-              (Post answer-val)
-          exits =
-              qed W (‵ (flft κ₀ q₀) ∷ ‵ (flft κ₁ q₁) ∷ ‵ (ShrSlice (named 0) κ₀ u8 .own x₀ (s₀ ∷ [])) ∷ ‵ (finally T.the-row γ₁ after) ∷ []) ∵
-              suffices ! _ (ends-at 𝓤 H A self.ended stayed (self.clauses 𝓤 H A at-mem run) W (((κ₀, (κ₁, tt)), (q₀, (q₁, tt)), tt, a, vals), tt)
-              answer-val answer (tt, (after, tt)) (tt, (after-long, tt))) $
-              says ! (
-                answered,
-                stored ∙ stored-answer (bucketsOf (readPlan (length list) bytes)) (lists zeros zeros zeros) (lists lengths rates depths)
-                    held list count (is-count answer count answered counted),
-              ) $
-              nothing ! $ move ! (2 ∷ 0 ∷ []) $ join ! $ move ! (1 ∷ 0 ∷ []) $ join ! $ frame ! $ nothing ! $ move ! (2 ∷ 0 ∷ []) $ fjoin ! $
-              move ! (1 ∷ 0 ∷ []) $ fjoin ! $ frame ! $
-              owned ! An.the-row (Is An.the-row) (EL.makes An.the-type An′.the-plain 𝓤 H A) answer (answer-val ∷ []) answer-is $
-              done !
+          (lists zeros zeros zeros) (lists lengths rates depths)) (very : VeryPlan bytes (readPlan (length list) bytes)) (count : ℕ)
+          (counted : count ≡ counted (λ x. x .buckets) (planSays answer)) (α₄ α₅ α₆ : ℕ) (after : List BucketRecord) (after-long : length after ≡ length list)
+          (stored : after ≡ filled (figures (recordsOf count lengths rates depths)) list) where
+        exits : ent 𝓤 (⋆ 𝓤 H A (‵ (flft κ₀ q₀) ∷ ‵ (flft κ₁ q₁) ∷ ‵ (ShrSlice (named 0) κ₀ u8 .own x₀ (s₀ ∷ [])) ∷ ‵ (finally T.the-row γ₁ after) ∷ []))
+            (Post answer-val)
+        exits =
+            qed W (‵ (flft κ₀ q₀) ∷ ‵ (flft κ₁ q₁) ∷ ‵ (ShrSlice (named 0) κ₀ u8 .own x₀ (s₀ ∷ [])) ∷ ‵ (finally T.the-row γ₁ after) ∷ []) ∵
+            suffices ! _ (ends-at 𝓤 H A self.ended stayed (self.clauses 𝓤 H A at-mem run) W (((κ₀, (κ₁, tt)), (q₀, (q₁, tt)), tt, a, vals), tt)
+            answer-val answer (tt, (after, tt)) (tt, (after-long, tt))) $
+            says ! (
+              answered,
+              stored ∙ stored-answer (bucketsOf (readPlan (length list) bytes)) (lists zeros zeros zeros) (lists lengths rates depths)
+                  held list count (is-count answer count answered counted),
+              very,
+            ) $
+            nothing ! $ move ! (2 ∷ 0 ∷ []) $ join ! $ move ! (1 ∷ 0 ∷ []) $ join ! $ frame ! $ nothing ! $ move ! (2 ∷ 0 ∷ []) $ fjoin ! $
+            move ! (1 ∷ 0 ∷ []) $ fjoin ! $ frame ! $
+            owned ! An.the-row (Is An.the-row) (EL.makes An.the-type An′.the-plain 𝓤 H A) answer (answer-val ∷ []) answer-is $
+            done !
 
-          ending : Sq W (‵ (flft (α₆ ∷ []) fullShare) ∷ ‵ (flft (α₅ ∷ []) fullShare) ∷ ‵ (flft (α₄ ∷ []) fullShare) ∷ ‵ (flft κ₁ q₁) ∷
-              ‵ (finally T.the-row γ₁ after) ∷ ‵ (flent (α₆ ∷ []) (Elems 𝓤 H A W u32 512 l₅ depths)) ∷ ‵ (flent (α₅ ∷ []) (Elems 𝓤 H A W u32 512 l₄ rates)) ∷
-              ‵ (flent (α₄ ∷ []) (Elems 𝓤 H A W u32 512 l₃ lengths)) ∷ ‵ (flft κ₀ q₀) ∷ ‵ (ShrSlice (named 0) κ₀ u8 .own x₀ (s₀ ∷ [])) ∷ ‵ (froom An′.mir l₀ 0) ∷
-              ‵ (froom (sliceTy (tyRef (named 0) imm (tyInt w8))) l₁ 0) ∷ ‵ (froom (sliceTy (tyRef (named 1) mut (pointee (T.the-row .written)))) l₂ 0) ∷
-              ‵ (fat fullShare An′.mir l₆ 0 answer-val) ∷ ‵ (froom (tyInt w64) l₇ 0) ∷ ‵ (froom (tyInt w64) l₈ 0) ∷
-              ‵ (froom (tyRef erased mut (tyArray (tyInt w32) 512)) l₉ 0) ∷ ‵ (froom (sliceTy (tyRef erased mut (tyInt w32))) l₁₀ 0) ∷
-              ‵ (froom (tyRef erased mut (tyArray (tyInt w32) 512)) l₁₁ 0) ∷ ‵ (froom (sliceTy (tyRef erased mut (tyInt w32))) l₁₂ 0) ∷
-              ‵ (froom (tyRef erased mut (tyArray (tyInt w32) 512)) l₁₃ 0) ∷ ‵ (froom (sliceTy (tyRef erased mut (tyInt w32))) l₁₄ 0) ∷ ‵ (froom tyUnit l₁₅ 0) ∷
-              ‵ (froom (tyRef erased mut (pointee (T.the-row .written))) l₁₆ 0) ∷ ‵ (froom (sliceTy (tyRef erased mut (pointee (T.the-row .written)))) l₁₇ 0) ∷
-              ‵ (froom (tyRef erased imm (tyArray (tyInt w32) 512)) l₁₈ 0) ∷ ‵ (froom (sliceTy (tyRef erased imm (tyInt w32))) l₁₉ 0) ∷
-              ‵ (froom (tyRef erased imm (tyArray (tyInt w32) 512)) l₂₀ 0) ∷ ‵ (froom (sliceTy (tyRef erased imm (tyInt w32))) l₂₁ 0) ∷
-              ‵ (froom (tyRef erased imm (tyArray (tyInt w32) 512)) l₂₂ 0) ∷ ‵ (froom (sliceTy (tyRef erased imm (tyInt w32))) l₂₃ 0) ∷ ‵ (fdies An′.mir l₀) ∷
-              ‵ (fdies (sliceTy (tyRef (named 0) imm (tyInt w8))) l₁) ∷ ‵ (fdies (sliceTy (tyRef (named 1) mut (pointee (T.the-row .written)))) l₂) ∷
-              ‵ (fdies (tyArray (tyInt w32) 512) l₃) ∷ ‵ (fdies (tyArray (tyInt w32) 512) l₄) ∷ ‵ (fdies (tyArray (tyInt w32) 512) l₅) ∷ ‵ (fdies An′.mir l₆) ∷
-              ‵ (fdies (tyInt w64) l₇) ∷ ‵ (fdies (tyInt w64) l₈) ∷ ‵ (fdies (tyRef erased mut (tyArray (tyInt w32) 512)) l₉) ∷
-              ‵ (fdies (sliceTy (tyRef erased mut (tyInt w32))) l₁₀) ∷ ‵ (fdies (tyRef erased mut (tyArray (tyInt w32) 512)) l₁₁) ∷
-              ‵ (fdies (sliceTy (tyRef erased mut (tyInt w32))) l₁₂) ∷ ‵ (fdies (tyRef erased mut (tyArray (tyInt w32) 512)) l₁₃) ∷
-              ‵ (fdies (sliceTy (tyRef erased mut (tyInt w32))) l₁₄) ∷ ‵ (fdies tyUnit l₁₅) ∷ ‵ (fdies (tyRef erased mut (pointee (T.the-row .written))) l₁₆) ∷
-              ‵ (fdies (sliceTy (tyRef erased mut (pointee (T.the-row .written)))) l₁₇) ∷ ‵ (fdies (tyRef erased imm (tyArray (tyInt w32) 512)) l₁₈) ∷
-              ‵ (fdies (sliceTy (tyRef erased imm (tyInt w32))) l₁₉) ∷ ‵ (fdies (tyRef erased imm (tyArray (tyInt w32) 512)) l₂₀) ∷
-              ‵ (fdies (sliceTy (tyRef erased imm (tyInt w32))) l₂₁) ∷ ‵ (fdies (tyRef erased imm (tyArray (tyInt w32) 512)) l₂₂) ∷
-              ‵ (fdies (sliceTy (tyRef erased imm (tyInt w32))) l₂₃) ∷ []) (runs C Λ E mir.t-22 (atRet E Post))
-          ending =
-              move ! (2 ∷ []) $ lft-end ! tt $ move ! (0 ∷ 7 ∷ []) $ lent-back ! tt $ move ! (2 ∷ []) $ lft-end ! tt $ move ! (0 ∷ 6 ∷ []) $
-              lent-back ! tt $ move ! (2 ∷ []) $ lft-end ! tt $ move ! (0 ∷ 5 ∷ []) $ lent-back ! tt $
-              assigns ! (of-opd ! (load ! (from ! (stop !)) (look ! 10 refl))) (from ! (stop !)) (init ! 7 refl ((EL.lawful An.the-type An′.the-laws 𝓤 H A W tt)
-              .typed answer (answer-val ∷ []) answer-is .0)) $
-              move ! (2 ∷ []) $ use1 W (‵ (froom (tyArray (tyInt w32) 512) l₃ 0)) (array-room 𝓤 H A W u32 512 l₃ lengths) $ move ! (2 ∷ []) $
-              use1 W (‵ (froom (tyArray (tyInt w32) 512) l₄ 0)) (array-room 𝓤 H A W u32 512 l₄ rates) $ move ! (2 ∷ []) $
-              use1 W (‵ (froom (tyArray (tyInt w32) 512) l₅ 0)) (array-room 𝓤 H A W u32 512 l₅ depths) $ returns ! (look ! 7 refl) $ forget ! 7 refl $
-              forget ! 10 refl $ move ! (7 ∷ 28 ∷ []) $ free1 ! $ move ! (7 ∷ 27 ∷ []) $ free1 ! $ move ! (7 ∷ 26 ∷ []) $ free1 ! $ move ! (2 ∷ 25 ∷ []) $
-              free1 ! $ move ! (1 ∷ 24 ∷ []) $ free1 ! $ move ! (0 ∷ 23 ∷ []) $ free1 ! $ move ! (4 ∷ 22 ∷ []) $ free1 ! $ move ! (4 ∷ 21 ∷ []) $ free1 ! $
-              move ! (4 ∷ 20 ∷ []) $ free1 ! $ move ! (4 ∷ 19 ∷ []) $ free1 ! $ move ! (4 ∷ 18 ∷ []) $ free1 ! $ move ! (4 ∷ 17 ∷ []) $ free1 ! $
-              move ! (4 ∷ 16 ∷ []) $ free1 ! $ move ! (4 ∷ 15 ∷ []) $ free1 ! $ move ! (4 ∷ 14 ∷ []) $ free1 ! $ move ! (4 ∷ 13 ∷ []) $ free1 ! $
-              move ! (4 ∷ 12 ∷ []) $ free1 ! $ move ! (4 ∷ 11 ∷ []) $ free1 ! $ move ! (4 ∷ 10 ∷ []) $ free1 ! $ move ! (4 ∷ 9 ∷ []) $ free1 ! $
-              move ! (4 ∷ 8 ∷ []) $ free1 ! $ move ! (4 ∷ 7 ∷ []) $ free1 ! $ move ! (4 ∷ 6 ∷ []) $ free1 ! $ move ! (4 ∷ 5 ∷ []) $ free1 ! $ free0 ! $
-              keep ! (2 ∷ 0 ∷ 3 ∷ 1 ∷ []) $
-              by ! exits
+        ending : Sq W (‵ (flft (α₆ ∷ []) fullShare) ∷ ‵ (flft (α₅ ∷ []) fullShare) ∷ ‵ (flft (α₄ ∷ []) fullShare) ∷ ‵ (flft κ₁ q₁) ∷
+            ‵ (finally T.the-row γ₁ after) ∷ ‵ (flent (α₆ ∷ []) (Elems 𝓤 H A W u32 512 l₅ depths)) ∷ ‵ (flent (α₅ ∷ []) (Elems 𝓤 H A W u32 512 l₄ rates)) ∷
+            ‵ (flent (α₄ ∷ []) (Elems 𝓤 H A W u32 512 l₃ lengths)) ∷ ‵ (flft κ₀ q₀) ∷ ‵ (ShrSlice (named 0) κ₀ u8 .own x₀ (s₀ ∷ [])) ∷ ‵ (froom An′.mir l₀ 0) ∷
+            ‵ (froom (sliceTy (tyRef (named 0) imm (tyInt w8))) l₁ 0) ∷ ‵ (froom (sliceTy (tyRef (named 1) mut (pointee (T.the-row .written)))) l₂ 0) ∷
+            ‵ (fat fullShare An′.mir l₆ 0 answer-val) ∷ ‵ (froom (tyInt w64) l₇ 0) ∷ ‵ (froom (tyInt w64) l₈ 0) ∷
+            ‵ (froom (tyRef erased mut (tyArray (tyInt w32) 512)) l₉ 0) ∷ ‵ (froom (sliceTy (tyRef erased mut (tyInt w32))) l₁₀ 0) ∷
+            ‵ (froom (tyRef erased mut (tyArray (tyInt w32) 512)) l₁₁ 0) ∷ ‵ (froom (sliceTy (tyRef erased mut (tyInt w32))) l₁₂ 0) ∷
+            ‵ (froom (tyRef erased mut (tyArray (tyInt w32) 512)) l₁₃ 0) ∷ ‵ (froom (sliceTy (tyRef erased mut (tyInt w32))) l₁₄ 0) ∷ ‵ (froom tyUnit l₁₅ 0) ∷
+            ‵ (froom (tyRef erased mut (pointee (T.the-row .written))) l₁₆ 0) ∷ ‵ (froom (sliceTy (tyRef erased mut (pointee (T.the-row .written)))) l₁₇ 0) ∷
+            ‵ (froom (tyRef erased imm (tyArray (tyInt w32) 512)) l₁₈ 0) ∷ ‵ (froom (sliceTy (tyRef erased imm (tyInt w32))) l₁₉ 0) ∷
+            ‵ (froom (tyRef erased imm (tyArray (tyInt w32) 512)) l₂₀ 0) ∷ ‵ (froom (sliceTy (tyRef erased imm (tyInt w32))) l₂₁ 0) ∷
+            ‵ (froom (tyRef erased imm (tyArray (tyInt w32) 512)) l₂₂ 0) ∷ ‵ (froom (sliceTy (tyRef erased imm (tyInt w32))) l₂₃ 0) ∷ ‵ (fdies An′.mir l₀) ∷
+            ‵ (fdies (sliceTy (tyRef (named 0) imm (tyInt w8))) l₁) ∷ ‵ (fdies (sliceTy (tyRef (named 1) mut (pointee (T.the-row .written)))) l₂) ∷
+            ‵ (fdies (tyArray (tyInt w32) 512) l₃) ∷ ‵ (fdies (tyArray (tyInt w32) 512) l₄) ∷ ‵ (fdies (tyArray (tyInt w32) 512) l₅) ∷ ‵ (fdies An′.mir l₆) ∷
+            ‵ (fdies (tyInt w64) l₇) ∷ ‵ (fdies (tyInt w64) l₈) ∷ ‵ (fdies (tyRef erased mut (tyArray (tyInt w32) 512)) l₉) ∷
+            ‵ (fdies (sliceTy (tyRef erased mut (tyInt w32))) l₁₀) ∷ ‵ (fdies (tyRef erased mut (tyArray (tyInt w32) 512)) l₁₁) ∷
+            ‵ (fdies (sliceTy (tyRef erased mut (tyInt w32))) l₁₂) ∷ ‵ (fdies (tyRef erased mut (tyArray (tyInt w32) 512)) l₁₃) ∷
+            ‵ (fdies (sliceTy (tyRef erased mut (tyInt w32))) l₁₄) ∷ ‵ (fdies tyUnit l₁₅) ∷ ‵ (fdies (tyRef erased mut (pointee (T.the-row .written))) l₁₆) ∷
+            ‵ (fdies (sliceTy (tyRef erased mut (pointee (T.the-row .written)))) l₁₇) ∷ ‵ (fdies (tyRef erased imm (tyArray (tyInt w32) 512)) l₁₈) ∷
+            ‵ (fdies (sliceTy (tyRef erased imm (tyInt w32))) l₁₉) ∷ ‵ (fdies (tyRef erased imm (tyArray (tyInt w32) 512)) l₂₀) ∷
+            ‵ (fdies (sliceTy (tyRef erased imm (tyInt w32))) l₂₁) ∷ ‵ (fdies (tyRef erased imm (tyArray (tyInt w32) 512)) l₂₂) ∷
+            ‵ (fdies (sliceTy (tyRef erased imm (tyInt w32))) l₂₃) ∷ []) (runs C Λ E mir.t-22 (atRet E Post))
+        ending =
+            move ! (2 ∷ []) $ lft-end ! tt $ move ! (0 ∷ 7 ∷ []) $ lent-back ! tt $ move ! (2 ∷ []) $ lft-end ! tt $ move ! (0 ∷ 6 ∷ []) $
+            lent-back ! tt $ move ! (2 ∷ []) $ lft-end ! tt $ move ! (0 ∷ 5 ∷ []) $ lent-back ! tt $
+            assigns ! (of-opd ! (load ! (from ! (stop !)) (look ! 10 refl))) (from ! (stop !)) (init ! 7 refl ((EL.lawful An.the-type An′.the-laws 𝓤 H A W tt)
+            .typed answer (answer-val ∷ []) answer-is .0)) $
+            move ! (2 ∷ []) $ use1 W (‵ (froom (tyArray (tyInt w32) 512) l₃ 0)) (array-room 𝓤 H A W u32 512 l₃ lengths) $ move ! (2 ∷ []) $
+            use1 W (‵ (froom (tyArray (tyInt w32) 512) l₄ 0)) (array-room 𝓤 H A W u32 512 l₄ rates) $ move ! (2 ∷ []) $
+            use1 W (‵ (froom (tyArray (tyInt w32) 512) l₅ 0)) (array-room 𝓤 H A W u32 512 l₅ depths) $ returns ! (look ! 7 refl) $ forget ! 7 refl $
+            forget ! 10 refl $ move ! (7 ∷ 28 ∷ []) $ free1 ! $ move ! (7 ∷ 27 ∷ []) $ free1 ! $ move ! (7 ∷ 26 ∷ []) $ free1 ! $ move ! (2 ∷ 25 ∷ []) $
+            free1 ! $ move ! (1 ∷ 24 ∷ []) $ free1 ! $ move ! (0 ∷ 23 ∷ []) $ free1 ! $ move ! (4 ∷ 22 ∷ []) $ free1 ! $ move ! (4 ∷ 21 ∷ []) $ free1 ! $
+            move ! (4 ∷ 20 ∷ []) $ free1 ! $ move ! (4 ∷ 19 ∷ []) $ free1 ! $ move ! (4 ∷ 18 ∷ []) $ free1 ! $ move ! (4 ∷ 17 ∷ []) $ free1 ! $
+            move ! (4 ∷ 16 ∷ []) $ free1 ! $ move ! (4 ∷ 15 ∷ []) $ free1 ! $ move ! (4 ∷ 14 ∷ []) $ free1 ! $ move ! (4 ∷ 13 ∷ []) $ free1 ! $
+            move ! (4 ∷ 12 ∷ []) $ free1 ! $ move ! (4 ∷ 11 ∷ []) $ free1 ! $ move ! (4 ∷ 10 ∷ []) $ free1 ! $ move ! (4 ∷ 9 ∷ []) $ free1 ! $
+            move ! (4 ∷ 8 ∷ []) $ free1 ! $ move ! (4 ∷ 7 ∷ []) $ free1 ! $ move ! (4 ∷ 6 ∷ []) $ free1 ! $ move ! (4 ∷ 5 ∷ []) $ free1 ! $ free0 ! $
+            keep ! (2 ∷ 0 ∷ 3 ∷ 1 ∷ []) $
+            by ! exits
 
       module _ (zeros : List ℕ) (answer : PlanAnswer) (answer-val : Val) (answer-is : Is An.the-row answer (answer-val ∷ [])) (lengths rates depths : List ℕ)
           (lengths-long : length lengths ≡ 512) (rates-long : length rates ≡ 512) (depths-long : length depths ≡ 512)
           (answered : planSays answer ≡ figuresOf (readPlan (length list) bytes)) (held : Filled (bucketsOf (readPlan (length list) bytes))
-          (lists zeros zeros zeros) (lists lengths rates depths)) (count : ℕ) (count-fits : count < 2 ^ 64) (counted : count ≡ counted (λ x. x .buckets)
-          (planSays answer)) where
+          (lists zeros zeros zeros) (lists lengths rates depths)) (very : VeryPlan bytes (readPlan (length list) bytes)) (count : ℕ)
+          (count-fits : count < 2 ^ 64) (counted : count ≡ counted (λ x. x .buckets) (planSays answer)) where
         module _ (α₄ α₅ α₆ : ℕ) (γ′₄ γ′₅ γ′₆ : GName) where
           abbrev to-storing : StoreRecords 𝓤 H A at-mem run .Ghost
           to-storing = (
@@ -367,12 +368,12 @@ module _ {M : Type 1} (𝓤 : URA M) (H : Heap 𝓤) (A : Atoms 𝓤) (W : Given
             land ! (from ! (stop !)) (init ! 22 refl ((nothing-lawful 𝓤 H A W) .typed u (u-val ∷ []) u-is .0)) $ forget ! 12 refl $ forget ! 14 refl $
             forget ! 22 refl $ forget ! 23 refl $ forget ! 24 refl $ forget ! 25 refl $ forget ! 26 refl $ forget ! 27 refl $ forget ! 28 refl $
             forget ! 29 refl $ forget ! 30 refl $
-            ending zeros answer answer-val answer-is lengths rates depths answered held count counted α₄ α₅ α₆ (last .0) after-long stored))))))))))))
+            ending zeros answer answer-val answer-is lengths rates depths answered held very count counted α₄ α₅ α₆ (last .0) after-long stored))))))))))))
 
       module _ (zeros : List ℕ) (α₁ α₂ α₃ : ℕ) (γ′₁ γ′₂ γ′₃ : GName) (answer : PlanAnswer) (answer-val : Val) (answer-is : Is An.the-row answer (answer-val ∷
           [])) (lengths rates depths : List ℕ) (lengths-long : length lengths ≡ 512) (rates-long : length rates ≡ 512) (depths-long : length depths ≡ 512)
           (answered : planSays answer ≡ figuresOf (readPlan (length list) bytes)) (held : Filled (bucketsOf (readPlan (length list) bytes))
-          (lists zeros zeros zeros) (lists lengths rates depths)) where
+          (lists zeros zeros zeros) (lists lengths rates depths)) (very : VeryPlan bytes (readPlan (length list) bytes)) where
         abbrev to-counting : BucketsOf 𝓤 H A at-mem run .Ghost
         to-counting = ((tt, tt, tt, (answer, tt), (answer-val ∷ [], tt)), tt)
 
@@ -425,7 +426,8 @@ module _ {M : Type 1} (𝓤 : URA M) (H : Heap 𝓤) (A : Atoms 𝓤) (W : Given
             drop ! $ split ! $ move ! (1 ∷ []) $ facts ! usize (Is usize) (shows 𝓤 H A usize) count (count-val ∷ []) (λ count-is. drop ! $
             land ! (from ! (stop !)) (init ! 11 refl ((uint-lawful 𝓤 H A W w64) .typed count (count-val ∷ []) count-is .0)) $
             rewrite ! 11 (λ (v : Val). ‵ (fat fullShare (tyInt w64) l₇ 0 v)) (ap only (count-is .0)) refl $
-            storing zeros answer answer-val answer-is lengths rates depths lengths-long rates-long depths-long answered held count (count-is .1) counted)))))
+            storing zeros answer answer-val answer-is lengths rates depths lengths-long rates-long depths-long answered held very count (count-is .1)
+            counted)))))
 
       module _ (zeros : List ℕ) (zeros-long : length zeros ≡ 512) (wide : Wide zeros zeros zeros) where
         module _ (α₁ α₂ α₃ : ℕ) (γ′₁ γ′₂ γ′₃ : GName) where
@@ -594,20 +596,22 @@ module _ {M : Type 1} (𝓤 : URA M) (H : Heap 𝓤) (A : Atoms 𝓤) (W : Given
               ),
             ) last) ⊛
             raw (fact 𝓤 (planSays answer ≡ figuresOf (readPlan (length list) bytes))) ⊛ raw (fact 𝓤 (Filled (bucketsOf (readPlan (length list) bytes))
-            (lists zeros zeros zeros) (lists (last .1 .1 .0) (last .1 .1 .1 .0) (last .1 .1 .1 .1 .0)))))) (id⊢ 𝓤 _) $
+            (lists zeros zeros zeros) (lists (last .1 .1 .0) (last .1 .1 .1 .0) (last .1 .1 .1 .1 .0)))) ⊛ raw (fact 𝓤 (VeryPlan bytes (readPlan (length list)
+            bytes))))) (id⊢ 𝓤 _) $
             pick ! (λ last. split ! $ move ! (1 ∷ []) $ split ! $ heard ! (planSays answer ≡ figuresOf (readPlan (length list) bytes)) (λ answered.
+            split ! $
             heard ! (Filled (bucketsOf (readPlan (length list) bytes)) (lists zeros zeros zeros) (lists (last .1 .1 .0) (last .1 .1 .1 .0)
             (last .1 .1 .1 .1 .0))) (λ held.
-            fsplit ! $ drop ! $ fsplit ! $ drop ! $ fsplit ! $ fsplit ! $ move ! (1 ∷ []) $ feqL ! (λ lengths-long. move ! (1 ∷ []) $ fsplit ! $
-            fsplit ! $ move ! (1 ∷ []) $ feqL ! (λ rates-long. move ! (1 ∷ []) $ fsplit ! $ fsplit ! $ move ! (1 ∷ []) $ feqL ! (λ depths-long.
-            move ! (1 ∷ []) $ drop ! $ move ! (3 ∷ []) $ split ! $ move ! (1 ∷ []) $
+            heard ! (VeryPlan bytes (readPlan (length list) bytes)) (λ very. fsplit ! $ drop ! $ fsplit ! $ drop ! $ fsplit ! $ fsplit ! $
+            move ! (1 ∷ []) $ feqL ! (λ lengths-long. move ! (1 ∷ []) $ fsplit ! $ fsplit ! $ move ! (1 ∷ []) $ feqL ! (λ rates-long. move ! (1 ∷ []) $
+            fsplit ! $ fsplit ! $ move ! (1 ∷ []) $ feqL ! (λ depths-long. move ! (1 ∷ []) $ drop ! $ move ! (3 ∷ []) $ split ! $ move ! (1 ∷ []) $
             facts ! An.the-row (Is An.the-row) (shows 𝓤 H A An.the-row) answer (answer-val ∷ []) (λ answer-is. split ! $ move ! (1 ∷ []) $ split ! $
             move ! (1 ∷ []) $ split ! $ move ! (1 ∷ []) $ split ! $ move ! (1 ∷ []) $ drop ! $
             land ! (from ! (stop !)) (init ! 16 refl ((EL.lawful An.the-type An′.the-laws 𝓤 H A W tt) .typed answer (answer-val ∷ []) answer-is .0)) $
             forget ! 14 refl $ forget ! 18 refl $ forget ! 19 refl $ forget ! 20 refl $ forget ! 21 refl $ forget ! 22 refl $ forget ! 23 refl $
             forget ! 24 refl $
             counting zeros α₁ α₂ α₃ γ′₁ γ′₂ γ′₃ answer answer-val answer-is (last .1 .1 .0) (last .1 .1 .1 .0) (last .1 .1 .1 .1 .0)
-            (lengths-long ∙ zeros-long) (rates-long ∙ zeros-long) (depths-long ∙ zeros-long) answered held)))))))))))))))
+            (lengths-long ∙ zeros-long) (rates-long ∙ zeros-long) (depths-long ∙ zeros-long) answered held very))))))))))))))))
 
       starting : Sq W (‵ (ShrSlice (named 0) κ₀ u8 .own x₀ (s₀ ∷ [])) ∷ ‵ (MutSlice (named 1) κ₁ T.the-row .own x₁ (s₁ ∷ [])) ∷ ‵ (flft κ₀ q₀) ∷ ‵ (flft κ₁ q₁)
           ∷ ‵ (froom An′.mir l₀ 0) ∷ ‵ (fat fullShare (sliceTy (tyRef (named 0) imm (tyInt w8))) l₁ 0 s₀) ∷ ‵ (fat fullShare (sliceTy (tyRef (named 1)
