@@ -165,7 +165,7 @@ module _ (x : PlanFigures) (f : Factor) (ds : List ℕ) (room : ℕ) (xs : Cutti
                 ∙ ap (onFigures (λ ms. record { file = front; plan = plan; meters = ms })) (metered .1)
 
             answer-is : figures (withMeters y n (totalsOf (metered .0))) ≡ figures (bookingOf recorded)
-            answer-is = rw (y-is, front-count writing bytes bytes′ n e b)
+            answer-is = ap₂ (λ (z : PlanFigures) (m : ℕ). figures (withMeters z m (totalsOf (metered .0)))) y-is (sym (front-count writing bytes bytes′ n e b))
 
             pub plan-metered : (r : Answer MeterTotals) → r ≡ onFigures totalsOf (metersOf f ds (recordsOf (y .buckets) (back′ .runs) (back′ .rates) (back′ .depths)))
                 → (answer : Answer Booking) → answer ≡ onFigures (withMeters y n) r → Records bytes′ back′ answer

@@ -1,4 +1,5 @@
--- Each call is made with what those before it gave. What was written is read back, so reading refuses nothing, and the records read make up the trace.
+-- Each call is made with what those before it gave. What was written is read back, so reading refuses nothing; the records read make up
+-- the trace, and no meter refuses, since the factor was weighed before anything was written.
 use Prim.Native.Nat.{ℕ}
 use native.Mathlib.Omega.{arith}
 use mathlib.Core.Path.{_≡_, sym, ap, _∙_}
@@ -9,19 +10,22 @@ use lib.Dec.{leb}
 use lib.ListN.{length}
 use lib.Seq.{length-take-le}
 use Rattle.terms.specs.Answer.{Answer, figures, onFigures}
+use Rattle.terms.specs.Bools.{check-passed, check-failed}
+use Rattle.terms.specs.Ranges.{factorOk}
 use Rattle.terms.specs.Records.{Cutting}
 use Rattle.terms.specs.LentLaws.{front-inside}
+use Rattle.bucket.specs.Trace.{Demands}
 use Rattle.encoding.specs.Fill.{fillSays}
 use Rattle.plan_file.specs.Plan.{planFile, planSays}
 use Rattle.record_list.specs.ListLaws.{length-records}
 use Rattle.record_list.specs.Lists.{RecordLists, lists, recordsOf}
-use Rattle.recording.specs.RecordingLaws.{no-room, write-refused, read-taken, back-ready, plan-metered}
+use Rattle.recording.specs.RecordingLaws.{no-factor, no-room, write-refused, read-taken, back-ready, plan-metered}
 use borrow.Author.Needs.{needs}
 use Rattle.recording.proofs.plans.record_plan.Statement.{statement}
 use Rattle.recording.proofs.plans.record_plan.Tie as tie
 
-abbrev start-at : tie.Else1 → tie.Start
-start-at c = c .before .before .before .before .before .before .before .before .before .before
+abbrev start-at : tie.Else2 → tie.Start
+start-at c = c .before .before .before .before .before .before .before .before .before .before .before .before
 
 -- the records that are written, as many as buckets
 abbrev records : tie.Start → Cutting
@@ -34,8 +38,16 @@ counted s = length-records (s .args .plan .buckets) (s .args .runs .now) (s .arg
 abbrev back : tie.Start → RecordLists
 back s = lists (s .args .back-runs .now) (s .args .back-rates .now) (s .args .back-depths .now)
 
-room : (c : tie.Else1) → let s = start-at c in leb (s .args .plan .buckets) (s .args .space) ≡ true
-room c = le-leb _ _ (c .if1 .left)
+-- a meter can be opened with the factor, and the list read into has room
+opens : (c : tie.Else1) → factorOk (c .before .before .before .before .before .before .before .before .before .before .args .factor) ≡ true
+opens c = check-passed (c .before .factor-in-range .ensures) (c .if1 .left)
+
+room : (c : tie.Else2) → let s = start-at c in leb (s .args .plan .buckets) (s .args .space) ≡ true
+room c = le-leb _ _ (c .if2 .left)
+
+-- the trace is a slice of demands
+demands : (c : tie.Else2) → Demands (start-at c .args .trace .now)
+demands c = record { each = λ i. omega (arith, c .before .before .before .before .before .before .before .before .before .before .before .shared-slice-known .given i) }
 
 abbrev writing : tie.After-write-lists → Answer (List ℕ)
 writing c =
@@ -55,13 +67,22 @@ told c = c .before .before .before .before .before
 abbrev read-at : tie.After-x → tie.After-read-lists
 read-at c = c .before .before .before .before .before .before .before .before
 
-cast-buckets : tie.Need-cast-buckets
-cast-buckets c = search needs
+factor-in-range-requires : tie.Need-factor-in-range-requires
+factor-in-range-requires c κs = search needs
 
 returns : tie.Need-returns
 returns c =
     let s = c .before .before .before .before .before .before .before .before .before .before in
-    no-room _ _ _ (s .args .room) (records s) (counted s) _ _ (back s) (lt-leb _ _ (c .if1 .taken))
+    no-factor _ _ _ (s .args .room) (records s) (counted s) _ _ (back s) (check-failed (c .before .factor-in-range .ensures) (c .if1 .taken))
+
+cast-buckets : tie.Need-cast-buckets
+cast-buckets c = search needs
+
+returns-2 : tie.Need-returns-2
+returns-2 c =
+    let e = c .before .before in
+    let s = e .before .before .before .before .before .before .before .before .before .before in
+    no-room _ _ _ (s .args .room) (records s) (counted s) _ _ (back s) (opens e) (lt-leb _ _ (c .if2 .taken))
 
 write-lists-requires : tie.Need-write-lists-requires
 write-lists-requires c κs = start-at (c .before) .pre .1 .0
@@ -75,12 +96,12 @@ enum-known-why c = search needs
 same-length : tie.Need-same-length
 same-length c = search needs
 
-returns-2 : tie.Need-returns-2
-returns-2 c =
+returns-3 : tie.Need-returns-3
+returns-3 c =
     let w = c .before .before .before .before .before in
     let e = w .before .before in
     let s = start-at e in
-    write-refused _ _ _ (s .args .room) (records s) (counted s) (s .args .bytes .now) (s .args .space) (back s) (room e) _ (w .write-lists .ensures .1) _
+    write-refused _ _ _ (s .args .room) (records s) (counted s) (s .args .bytes .now) (s .args .space) (back s) (opens (e .before .before)) (room e) _ (w .write-lists .ensures .1) _
     (sym (ap fillSays (c .before .why .given .1)) ∙ w .write-lists .ensures .0)
 
 slice-reshare-prefix-read-lists : tie.Need-slice-reshare-prefix-read-lists
@@ -115,15 +136,15 @@ same-length-4 c = search needs
 same-length-5 : tie.Need-same-length-5
 same-length-5 c = search needs
 
-returns-3 : tie.Need-returns-3
-returns-3 c =
+returns-4 : tie.Need-returns-4
+returns-4 c =
     let p = c .before .before .before .before .before .before .before .before .before in
     let n = told p in
     let w = write-at n in
     let e = w .before .before in
     let s = start-at e in
     let a = s .args in
-    absurd (read-taken (a .plan) (a .factor) (a .trace .now) (a .room) (records s) (counted s) (a .bytes .now) (a .space) (back s) (room e) _ (w .write-lists .ensures .1) _ (written-so n) _
+    absurd (read-taken (a .plan) (a .factor) (a .trace .now) (a .room) (records s) (counted s) (a .bytes .now) (a .space) (back s) (opens (e .before .before)) (room e) _ (w .write-lists .ensures .1) _ (written-so n) _
     (sym (ap planSays (c .before .why2 .given .1)) ∙ p .read-lists .ensures .0))
 
 cast-count : tie.Need-cast-count
@@ -138,8 +159,8 @@ meter-runs-requires c κs =
     let e = w .before .before in
     let s = start-at e in
     let a = s .args in
-    back-ready (a .plan) (a .factor) (a .trace .now) (a .room) (records s) (counted s) (a .bytes .now) (a .space) (back s) (room e) _ (w .write-lists .ensures .1) _ (written-so n)
-    (x .x .given .0 .0) (sym (ap planSays (x .x .given .1)) ∙ p .read-lists .ensures .0) _ (p .read-lists .ensures .1) (s .pre .1 .1) (s .pre .0)
+    back-ready (a .plan) (a .factor) (a .trace .now) (a .room) (records s) (counted s) (a .bytes .now) (a .space) (back s) (opens (e .before .before)) (room e) _ (w .write-lists .ensures .1) _ (written-so n)
+    (x .x .given .0 .0) (sym (ap planSays (x .x .given .1)) ∙ p .read-lists .ensures .0) _ (p .read-lists .ensures .1 .0) (s .pre .1 .1) (s .pre .0)
 
 with-meters-requires : tie.Need-with-meters-requires
 with-meters-requires c κs = search needs
@@ -159,8 +180,8 @@ same-length-8 c = search needs
 same-length-9 : tie.Need-same-length-9
 same-length-9 c = search needs
 
-returns-4 : tie.Need-returns-4
-returns-4 c =
+returns-5 : tie.Need-returns-5
+returns-5 c =
     let t = c .before in
     let x = t .before .before .before .before .before .before in
     let p = read-at x in
@@ -169,20 +190,22 @@ returns-4 c =
     let e = w .before .before in
     let s = start-at e in
     let a = s .args in
-    plan-metered (a .plan) (a .factor) (a .trace .now) (a .room) (records s) (counted s) (a .bytes .now) (a .space) (back s) (room e) _ (w .write-lists .ensures .1) _ (written-so n)
-    (x .x .given .0 .0) (sym (ap planSays (x .x .given .1)) ∙ p .read-lists .ensures .0) _ (p .read-lists .ensures .1) _ (t .meter-runs .ensures) _ (c .with-meters .ensures)
+    plan-metered (a .plan) (a .factor) (a .trace .now) (a .room) (records s) (counted s) (a .bytes .now) (a .space) (back s) (opens (e .before .before)) (room e) _ (w .write-lists .ensures .1) _ (written-so n)
+    (x .x .given .0 .0) (sym (ap planSays (x .x .given .1)) ∙ p .read-lists .ensures .0) _ (p .read-lists .ensures .1 .0) (demands e) (s .pre .0) _ (t .meter-runs .ensures) _ (c .with-meters .ensures)
 
 pub record-plan-spec : {M : Type 1} → statement M
 record-plan-spec =
     tie.close
     (tie.spec
-    cast-buckets
+    factor-in-range-requires
     returns
+    cast-buckets
+    returns-2
     write-lists-requires
     enum-known-n
     enum-known-why
     same-length
-    returns-2
+    returns-3
     slice-reshare-prefix-read-lists
     slice-aggregate-read-lists
     read-lists-requires
@@ -192,7 +215,7 @@ record-plan-spec =
     same-length-3
     same-length-4
     same-length-5
-    returns-3
+    returns-4
     cast-count
     meter-runs-requires
     with-meters-requires
@@ -200,4 +223,4 @@ record-plan-spec =
     same-length-7
     same-length-8
     same-length-9
-    returns-4)
+    returns-5)
