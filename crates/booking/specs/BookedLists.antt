@@ -9,23 +9,25 @@ use lib.ListN.{length, take}
 use Rattle.terms.specs.Answer.{Answer, figures, refused, onFigures, andThen}
 use Rattle.terms.specs.AnswerLaws.{on-figures, on-refused}
 use Rattle.terms.specs.Lent.{filled}
-use Rattle.terms.specs.LentLaws.{filled-front}
+use Rattle.terms.specs.LentLaws.{filled-front, filled-length}
 use Rattle.terms.specs.Limits.{traceLimit}
 use Rattle.terms.specs.Records.{Cutting}
 use Rattle.encoding.specs.NumberLaws.{Bytes}
+use Rattle.order_file.specs.Order.{tracePart}
+use Rattle.order_file.specs.OrderRules.{spread-rules}
 use Rattle.order_file.specs.Ordered.{Ordered, ordered}
 use Rattle.order_file.specs.OrderedLaws.{ordered-count, ordered-min}
 use Rattle.record_list.specs.ListLaws.{stored-answer, stored-none}
 use Rattle.record_list.specs.Lists.{RecordLists, Filled, counted, recordsOf}
 use Rattle.plan_file.specs.Plan.{Recorded}
 use Rattle.planning.specs.Planning.{Planned, planned, plannedRuns, cuttingOf, demandsOf}
-use Rattle.planning.specs.PlannedLaws.{is-planned}
+use Rattle.planning.specs.PlannedLaws.{IsPlanned, is-planned}
 use Rattle.recording.specs.declared.plans.Booking.{Booking}
 use Rattle.booking.specs.Booking.{Steps, lent, booked, answerOf, lentAfter}
 use Rattle.booking.specs.CallLaws.{Sizes, ListsLent, Called, sizes, lentLists, plannedIn, recordingIn, bookedIn}
 use Rattle.booking.specs.Claim.{Claim}
 use Rattle.booking.specs.ClaimLaws.{booked-sizes, claim-holds}
-use Rattle.booking.specs.StepLaws.{found-back, found-recorded, found-same, planned-short, steps-found}
+use Rattle.booking.specs.StepLaws.{Found, found-back, found-recorded, found-same, planned-short, steps-found}
 
 -- What the list planned into, and the list read into, hold afterwards that were lent.
 abbrev pub planAfter : Answer Steps → Cutting → Cutting
@@ -85,21 +87,45 @@ module _ (bs : List ℕ) (h : Bytes bs) (room space : ℕ) (old called : ListsLe
         reads = λ s e. subst (λ (a : Answer Steps). Filled (onFigures (λ t. t .recording .plan .buckets) a) (old .back) (called .back)) (same-calls ∙ e) (c .reads);
       }
 
-  -- The T numbers spread are stored in the lent demands; after a refusal none are.
-  pub booked-lists : (x : Booking) → answer ≡ figures x → (demands : List ℕ) → demands ≡ filled (figures (take (x .plan .periods) (called .demands))) (old .demands)
-      → BooksLists bs z old (lentLists demands (called .plan) (called .bytes) (called .back)) answer
-  booked-lists x e demands d =
-      let s = on-figures answerOf all (sym answers-all ∙ e) in
-      let ds = s .0 .planning .demands in
-      let f = steps-found bs z (s .0) (s .1) in
-      let T : x .plan .periods ≡ length ds =
-      ap (λ (y : Booking). y .plan .periods) (sym (s .2)) ∙ ap (λ (y : Recorded). y .periods) (found-recorded bs z (s .0) f)
-      ∙ sym (ordered-count (is-planned (z .demands) room bs (s .0 .planning) (f .is-plan) .as-ordered)) in
-      let spread : called .demands ≡ filled (figures ds) own = c .spreads ∙ ap (λ (a : Answer Planned). filled (demandsOf a) own) (same-plan ∙ f .is-plan) in
-      let front : take (x .plan .periods) (called .demands) ≡ ds = ap₂ (λ (n : ℕ) (ys : List ℕ). take n ys) T spread ∙ filled-front ds own in
-      books demands
-      (d ∙ ap (λ (ys : List ℕ). filled (figures ys) (old .demands)) front ∙ ap (λ (a : Answer Steps). filled (onFigures (λ t. t .planning .demands) a) (old .demands)) (sym (s .1)))
+  -- The T numbers spread stand at the front of the booking's own list and are stored in the lent demands.
+  module _ (x : Booking) (e : answer ≡ figures x) where
+    given : (s : Steps) × (all ≡ figures s) × (answerOf s ≡ x)
+    given = on-figures answerOf all (sym answers-all ∙ e)
 
+    abbrev spread : Planned
+    spread = given .0 .planning
+
+    found : Found bs z (given .0)
+    found = steps-found bs z (given .0) (given .1)
+
+    on-own : IsPlanned (length own) room bs spread
+    on-own = is-planned (length own) room bs spread (same-plan ∙ found .is-plan)
+
+    periods-are : x .plan .periods ≡ length (spread .demands)
+    periods-are =
+        ap (λ (y : Booking). y .plan .periods) (sym (given .2)) ∙ ap (λ (y : Recorded). y .periods) (found-recorded bs z (given .0) found)
+        ∙ sym (ordered-count (on-own .as-ordered))
+
+    called-is : called .demands ≡ filled (figures (spread .demands)) own
+    called-is = c .spreads ∙ ap (λ (a : Answer Planned). filled (demandsOf a) own) (same-plan ∙ found .is-plan)
+
+    fits : length (spread .demands) ≤ length own
+    fits = spread-rules (length own) (tracePart bs) (spread .demands) (on-own .as-ordered .spread) .1
+
+    pub periods-inside : (x .plan .periods ≤ length (called .demands)) × (x .plan .periods ≤ length (old .demands))
+    periods-inside = (
+      omega (arith, periods-are, fits, ap length called-is, filled-length (spread .demands) own fits),
+      omega (arith, periods-are, fits, size),
+    )
+
+    pub booked-lists : (demands : List ℕ) → demands ≡ filled (figures (take (x .plan .periods) (called .demands))) (old .demands)
+        → BooksLists bs z old (lentLists demands (called .plan) (called .bytes) (called .back)) (figures x)
+    booked-lists demands d =
+        let front : take (x .plan .periods) (called .demands) ≡ spread .demands = ap₂ (λ (n : ℕ) (ys : List ℕ). take n ys) periods-are called-is ∙ filled-front (spread .demands) own in
+        let stored = d ∙ ap (λ (ys : List ℕ). filled (figures ys) (old .demands)) front ∙ ap (λ (a : Answer Steps). filled (onFigures (λ s. s .planning .demands) a) (old .demands)) (sym (given .1)) in
+        subst (BooksLists bs z old (lentLists demands (called .plan) (called .bytes) (called .back))) e (books demands stored)
+
+  -- After a refusal none are.
   pub refused-lists : (n : ℕ) → answer ≡ refused n → BooksLists bs z old (lentLists (old .demands) (called .plan) (called .bytes) (called .back)) answer
   refused-lists n e =
       let r = on-refused answerOf all (sym answers-all ∙ e) in

@@ -6,11 +6,10 @@ use mathlib.Core.Path.{_≡_, refl, sym, ap, ap₂, subst, _∙_}
 use mathlib.Core.List.{List}
 use mathlib.Core.Logic.{_⊎_, inl, inr, ⊎-elim}
 use borrow.Author.Tests.{le-leb}
-use lib.Dec.{leb}
 use lib.ListN.{length, take}
 use Rattle.terms.specs.declared.Tariff.{Tariff}
 use Rattle.terms.specs.Answer.{Answer, figures, refused, onFigures, andThen}
-use Rattle.terms.specs.AnswerLaws.{figures-refused, weigh-figures, then-figures, then-refused, then-found}
+use Rattle.terms.specs.AnswerLaws.{figures-refused, then-figures, then-refused}
 use Rattle.terms.specs.LentLaws.{filled-front, filled-length}
 use Rattle.terms.specs.RangeLaws.{PeriodsRange, periods-ok, tariff-ok}
 use Rattle.terms.specs.Records.{Cutting, Each}
@@ -24,7 +23,8 @@ use Rattle.order_file.specs.OrderLaws.{demands-count, read-spread}
 use Rattle.order_file.specs.OrderRules.{OrderRules, orderIn, rules-read, read-rules}
 use Rattle.order_file.specs.Ordered.{Ordered, ordered}
 use Rattle.order_file.specs.OrderedLaws.{found-ordered}
-use Rattle.plan_file.specs.Plan.{Recorded, fitting, planFile, planIn}
+use Rattle.plan_file.specs.Plan.{planFile, planIn}
+use Rattle.plan_file.specs.PlanRules.{read-holds}
 use Rattle.planning.specs.Planning.{Planned, plannedRuns}
 use Rattle.planning.specs.PlannedLaws.{IsPlanned, is-planned}
 use Rattle.recording.specs.declared.plans.Booking.{Booking}
@@ -40,12 +40,6 @@ use Rattle.booking.specs.StepLaws.{fileOf, recordingOf, file-fits, writt
 carried-caps : (bs : List ℕ) {ds : List ℕ} {xs : Cutting} → Carried (tariffIn bs) ds xs → Each (InsideCaps bs) xs
 carried-caps bs none = tt
 carried-caps bs (run f c) = (record { rate = f .fits .rates; depth = f .fits .depths }, carried-caps bs c)
-
--- What reading into a list gives is what the file holds.
-fits-file : (room : ℕ) (a : Answer Recorded) (y : Recorded) → andThen a (fitting room) ≡ figures y → a ≡ figures y
-fits-file room a y e =
-    let f = then-found a (fitting room) e in
-    f .1 ∙ weigh-figures (leb (length (f .0 .buckets)) room) 6 (figures (f .0)) (f .2) .1
 
 -- ---- The list of calls on lent records is that by their lengths
 
@@ -160,7 +154,7 @@ module _ (bs : List ℕ) (h : Bytes bs) (old after : Lent) (answer : Answer Book
             recorded =
                 ap (λ (l : Lent). planIn (take (length file) (l .bytes))) after-is
                 ∙ ap planIn (filled-front file (old .bytes))
-                ∙ fits-file (length (old .back)) (planIn file) _ (written-read bs h z x is file written-is);
+                ∙ read-holds (length (old .back)) file _ (written-read bs h z x is file written-is);
             recorded-list = ap (λ (l : Lent). take (length xs) (l .back)) after-is ∙ filled-front xs (old .back);
             recorded-periods = refl;
             is-series-answer = is-answer;

@@ -6,3 +6,4 @@ pub mod CallLaws
 pub mod StepLaws
 pub mod ClaimLaws
 pub mod BookedLists
+pub mod EnoughLaws
