@@ -3,11 +3,9 @@
 -- Assumes nothing.
 use Prim.Native.Nat.{ℕ}
 use mathlib.Core.Path.{_≡_, refl, sym, ap, _∙_}
-use mathlib.Core.Bool.{Bool}
 use mathlib.Core.List.{List}
-use borrow.Author.Tests.{le-leb}
 use lib.ListN.{length}
-use Rattle.terms.specs.Answer.{Answer, figures, refused, weigh, onFigures}
+use Rattle.terms.specs.Answer.{Answer, figures, refused, onFigures}
 use Rattle.terms.specs.AnswerLaws.{then-figures, then-refused}
 use Rattle.terms.specs.Limits.{traceLimit}
 use Rattle.encoding.specs.NumberLaws.{Bytes}
@@ -18,7 +16,7 @@ use Rattle.recording.specs.Recording.{Recording, readBack}
 use Rattle.booking.specs.Booking.{Lent, Steps, booked, planFigures}
 use Rattle.booking.specs.CallLaws.{Sizes, sizes, sizesOf, bookedIn, fileIn, recordingIn, writtenIn}
 use Rattle.booking.specs.ClaimLaws.{booked-sizes}
-use Rattle.booking.specs.StepLaws.{planned-short, steps-figures}
+use Rattle.booking.specs.StepLaws.{planned-short, steps-figures, written-is}
 use Rattle.exports.specs.Answers.{planFileIn}
 
 -- The file alone.
@@ -33,10 +31,8 @@ module _ (bs : List ℕ) (h : Bytes bs) (room : ℕ) where
   planning = planned traceLimit traceLimit bs
 
   -- the list read back into has room for any plan
-  written-is : (x : Planned) → planning ≡ figures x → writtenIn z x ≡ fileIn z x
-  written-is x e =
-      let few = planned-short bs traceLimit traceLimit x (is-planned traceLimit traceLimit bs x e) .1 in
-      ap (λ (ok : Bool). weigh ok 6 (fileIn z x)) (le-leb (length (x .cutting)) traceLimit few)
+  file-written : (x : Planned) → planning ≡ figures x → writtenIn z x ≡ fileIn z x
+  file-written x e = let is = is-planned traceLimit traceLimit bs x e in written-is bs h z x is (planned-short bs traceLimit traceLimit x is .1)
 
   file-is : (x : Planned) → planning ≡ figures x → fileIn z x ≡ planFileIn room bs
   file-is x e = then-figures planning (λ y. planFile traceLimit room (planFigures y) (y .cutting)) e
@@ -51,10 +47,10 @@ module _ (bs : List ℕ) (h : Bytes bs) (room : ℕ) where
           written : (b : Answer (List ℕ)) → fileIn z x ≡ b → fileAnswered (bookedIn z bs) ≡ planFileIn room bs
           written (figures file) w =
               let is = is-planned traceLimit traceLimit bs x e in
-              ap fileAnswered (steps-figures bs h z x is e file (written-is x e ∙ w)) ∙ sym w ∙ file-is x e
+              ap fileAnswered (steps-figures bs h z x is e file (file-written x e ∙ w)) ∙ sym w ∙ file-is x e
           written (refused m) w =
               let r : recordingIn z x ≡ refused m =
-              sym (then-refused (writtenIn z x) (readBack traceLimit (x .order .tariff .factor) (x .demands)) (written-is x e ∙ w)) in
+              sym (then-refused (writtenIn z x) (readBack traceLimit (x .order .tariff .factor) (x .demands)) (file-written x e ∙ w)) in
               let f : bookedIn z bs ≡ refused m =
               sym (then-figures planning _ e) ∙ ap (onFigures {B = Steps} (λ (y : Recording). record { planning = x; recording = y })) r in
               ap fileAnswered f ∙ sym w ∙ file-is x e

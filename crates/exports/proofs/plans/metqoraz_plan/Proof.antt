@@ -34,7 +34,7 @@ lent-room x =
 read-room : (x : tie.After-x) → let k = x .before .before .before .before .before .read-lists .last .1 .1 in Rooms (x .x .given .0 .0 .buckets) (k .0) (k .1 .0) (k .1 .1 .0)
 read-room x =
     let l = x .before .before .before .before .before in
-    read-inside (start-at l .args .plan .now) (lent-at l) _ (room l) _ (l .read-lists .ensures .0) _ (ap planSays (x .x .given .1)) _ (read-at l) (l .read-lists .ensures .1)
+    read-inside (start-at l .args .plan .now) (lent-at l) _ (room l) _ (l .read-lists .ensures .0) _ (ap planSays (x .x .given .1)) _ (read-at l) (l .read-lists .ensures .1 .0)
 
 shorter-requires : tie.Need-shorter-requires
 shorter-requires c κs = search needs
@@ -118,7 +118,7 @@ returns-2 : tie.Need-returns-2
 returns-2 c =
     let x = c .before .before .before .before .before .before .before .before .before .before .before .before .before .before .before .before .before in
     let l = x .before .before .before .before .before in
-    plan-read (start-at l .args .plan .now) (lent-at l) _ (room l) _ (l .read-lists .ensures .0) _ (ap planSays (x .x .given .1)) _ (read-at l) (l .read-lists .ensures .1)
+    plan-read (start-at l .args .plan .now) (lent-at l) _ (room l) _ (l .read-lists .ensures .0) _ (ap planSays (x .x .given .1)) _ (read-at l) (l .read-lists .ensures .1 .0)
     (lists (c .before .before .before .before .before .before .before .before .before .before .before .before .store .last .1 .0) (c .before .before .before .before .before .before .before .store2 .last .1 .0) (c .before .before .store3 .last .1 .0))
     (c .before .before .before .before .before .before .before .before .before .before .before .before .store .ensures) (c .before .before .before .before .before .before .before .store2 .ensures) (c .before .before .store3 .ensures)
 
