@@ -12,7 +12,7 @@ const REFUSED: u64 = 1_000_000_000_000_000_000;
 const ORDER_MAX: usize = 48 + 2 * PERIODS_MAX;
 const PLAN_MAX: usize = 32 + 12 * PERIODS_MAX;
 const LINE_MAX: usize = 40;
-const SHEET_MAX: usize = 16_413;
+const SHEET_MAX: usize = 29 + 32 * PERIODS_MAX;
 
 // A slice goes over as a pointer and a length. The product reads and writes inside it alone, and keeps neither.
 extern "C" {

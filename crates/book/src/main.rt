@@ -10,9 +10,8 @@ use console::read_all;
 use console::refuse;
 use files::book_file;
 use libc::STDERR_FILENO;
-
-// The longest plan file: 32 bytes, and 12 for each of 512 buckets.
-const PLAN_ROOM: usize = 6176;
+use libc::STDOUT_FILENO;
+use plan_file::LONGEST_PLAN;
 
 fn main() {
     if !has_words(
@@ -27,10 +26,10 @@ fn main() {
 }
 
 fn book_order(order: &[u8]) {
-    let mut bytes = [0u8; PLAN_ROOM];
+    let mut bytes = [0u8; LONGEST_PLAN];
     let answer = book_file(order, &mut bytes);
     match answer {
-        BookingAnswer::Booked(booked) => put_front(&bytes, booked.length),
+        BookingAnswer::Booked(booked) => put_front(STDOUT_FILENO, &bytes, booked.length),
         BookingAnswer::Refused(why) => refuse(STDERR_FILENO, why),
     }
 }

@@ -5,12 +5,14 @@ use encoding::FillAnswer;
 use libc::STDERR_FILENO;
 use libc::STDIN_FILENO;
 use libc::STDOUT_FILENO;
+use order_file::LONGEST_ORDER;
 use terms::Refusal;
+use text::LONGEST_REFUSAL;
 use text::refusal_line;
 ghost use Rattle.io.specs.Counts.{Counts};
 
 // One byte more than the longest order, so that a byte behind it is seen.
-pub const ORDER_ROOM: usize = 1073;
+pub const ORDER_ROOM: usize = LONGEST_ORDER + 1;
 
 // Reads all of standard input, in whatever pieces it comes, or as much of it as there is room for.
 // Where a read fails, that goes to standard error and nothing counts as read: a part of an order
@@ -51,23 +53,25 @@ pub fn has_words(count: usize, usage: &[u8]) -> bool {
 // Writes the text that a call has filled to standard output, or the refusal line.
 pub fn print(answer: FillAnswer, text: &[u8]) {
     match answer {
-        FillAnswer::Filled(length) => put_front(text, length),
+        FillAnswer::Filled(length) => put_front(STDOUT_FILENO, text, length),
         FillAnswer::Refused(why) => refuse(STDOUT_FILENO, why),
     }
 }
 
-// Writes the front of some bytes to standard output.
-pub fn put_front(bytes: &[u8], length: usize) {
+// Writes the front of some bytes, as long as a call has answered.
+pub fn put_front(fd: i32, bytes: &[u8], length: usize) {
     if length <= bytes.len() {
-        put(STDOUT_FILENO, &bytes[..length]);
+        put(fd, &bytes[..length]);
     }
 }
 
 // Writes the refusal line.
 pub fn refuse(fd: i32, why: Refusal) {
-    let mut line = [0u8; 10];
-    refusal_line(why, &mut line);
-    put(fd, &line);
+    let mut line = [0u8; LONGEST_REFUSAL];
+    let FillAnswer::Filled(length) = refusal_line(why, &mut line) else {
+        return;
+    };
+    put_front(fd, &line, length);
 }
 
 // Writes all of some bytes, and says so where that fails.

@@ -9,7 +9,7 @@ use mathlib.Core.List.{List, [], _∷_}
 use borrow.Author.Tests.{ltb-true}
 use lib.Dec.{eqb, leb, ltb}
 use lib.IntN.{ℤ, pos, negsuc, natAbs}
-use lib.ListN.{length, length-append}
+use lib.ListN.{length}
 use lib.Signed.{leZ}
 use Rattle.terms.specs.declared.Bucket.{Bucket}
 use Rattle.terms.specs.declared.Factor.{Factor}
@@ -28,25 +28,24 @@ use Rattle.meter.specs.declared.meters.Meter.{Meter}
 use Rattle.meter.specs.Meter.{freshMeter, meterOk, offerOf, offersOf, openOf, recordAfter}
 use Rattle.depth.specs.DepthLaws.{depth-found}
 use Rattle.single.specs.Single.{singleOf}
-use Rattle.series.specs.OutlineLaws.{carried-below, carried-cost, carried-count}
-use Rattle.series.specs.Series.{trueCost}
+use Rattle.series.specs.OutlineLaws.{carried-below}
 use Rattle.encoding.specs.NumberLaws.{Bytes}
 use Rattle.order_file.specs.Order.{orderLength, writeOrder}
 use Rattle.order_file.specs.OrderRules.{length-order}
 use Rattle.order_file.specs.Ordered.{ordered}
-use Rattle.order_file.specs.OrderedLaws.{is-ordered, ordered-count, ordered-range, spread-demands}
+use Rattle.order_file.specs.OrderedLaws.{is-ordered, ordered-range, spread-demands}
 use Rattle.plan_file.specs.Plan.{fitting, planIn, readPlan}
 use Rattle.plan_file.specs.Plan as plan
 use Rattle.plan_file.specs.PlanRules.{length-plan, read-rules, write-rules}
-use Rattle.planning.specs.Planning.{Planned, planned}
+use Rattle.planning.specs.Planning.{planned}
 use Rattle.planning.specs.PlannedLaws.{is-planned, planned-cheapest}
 use Rattle.booking.specs.Booking.{planFigures}
 use Rattle.booking.specs.BookingLaws.{file-demands, order-demands}
 use Rattle.services.specs.Services.{singleIn, trialIn}
 use Rattle.services.specs.ServiceLaws.{priced-short}
-use Rattle.sheets.specs.LengthLaws.{plan-line-short, runs-short}
-use Rattle.sheets.specs.Sheet.{runLines, sheetIn, sheetText}
-use Rattle.text.specs.Lines.{planLine, singleLine, trialLine}
+use Rattle.sheets.specs.Sheet.{sheetIn, sheetText}
+use Rattle.sheets.specs.SheetLaws.{sheet-short}
+use Rattle.text.specs.Lines.{singleLine, trialLine}
 use Rattle.text.specs.LineLaws.{trial-short}
 use Rattle.typed_figures.specs.Figures.{tariffFigures, tariffOf}
 use Rattle.exports.specs.Answers.{refusedFrom, coded, orderFrom, depthIn, costIn, planFileIn, meterIn}
@@ -147,25 +146,12 @@ single-below room bs n e =
     let r = ordered-range (is-ordered traceLimit bs (a .0) (a .1)) in
     omega (arith, ap length (same-figures (c .1)), priced-short _ _ (b .0) (r .1) (r .0 .few) (b .1), g .2)
 
-sheet-short : (bs : List ℕ) (x : Planned) → planned traceLimit traceLimit bs ≡ figures x → length (sheetText x) ≤ 16413
-sheet-short bs x e =
-    let p = is-planned traceLimit traceLimit bs x e in
-    let r = ordered-range (p .as-ordered) in
-    let t = x .order .tariff in
-    let c = planned-cheapest p .carried in
-    let few = carried-count t c in
-    let n : x .order .periods ≡ length (x .demands) = sym (ordered-count (p .as-ordered)) in
-    let first = planLine (x .order .periods) (length (x .cutting)) (trueCost t (x .cutting)) in
-    let lines = runLines (t .factor) 1 (x .demands) (x .cutting) in
-    let short = plan-line-short (x .order .periods) (length (x .cutting)) (trueCost t (x .cutting)) (omega (arith, n, r .0 .few)) (omega (arith, few, r .0 .few)) (omega (arith, carried-cost t (r .1) c, r .0 .few)) in
-    omega (arith, length-append first lines, short, runs-short t (r .1) c 1 (omega (arith, r .0 .few)), few, r .0 .few)
-
 pub sheet-below : (room : ℕ) (bs : List ℕ) → Below (onFigures length (sheetIn room bs))
 sheet-below room bs n e =
     let g = on-figures length (sheetIn room bs) e in
     let a = then-found (planned traceLimit traceLimit bs) _ (g .1) in
     let c = weigh-figures (leb (length (sheetText (a .0))) room) 6 (figures (sheetText (a .0))) (a .2) in
-    omega (arith, ap length (same-figures (c .1)), sheet-short bs (a .0) (a .1), g .2)
+    omega (arith, ap length (same-figures (c .1)), sheet-short (is-planned traceLimit traceLimit bs (a .0) (a .1)), g .2)
 
 -- ---- Plans
 

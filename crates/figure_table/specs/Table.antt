@@ -122,7 +122,7 @@ table =
     ∷ record { given = onFigures costRow (atRate uneven (3 ∷ []) 0); paper = figures (pos 25 ∷ []) }
     ∷ record { given = onFigures costRow (atRate uneven (3 ∷ []) 1); paper = figures (pos 22 ∷ []) }
     ∷ record { given = onFigures costRow (atRate uneven (3 ∷ []) 2); paper = figures (pos 24 ∷ []) }
-    -- I: trace 0: (0, 0), cost 4
+    -- I: trace 0: (0, 0), cost 4; as a series below
     ∷ record { given = onFigures singleRow (singleOf printed (0 ∷ [])); paper = figures (pos 0 ∷ pos 0 ∷ pos 4 ∷ []) }
     -- J: meter rate 5, depth 4, offers 4,8,2,9: sent 22, over 1, lost 0, tokens 0
     ∷ record {
@@ -150,6 +150,8 @@ table =
     ∷ record { given = seriesAt empty (2 ∷ 8 ∷ []); paper = figures (pos 1 ∷ pos 30 ∷ pos 2 ∷ pos 5 ∷ pos 3 ∷ []) }
     -- H: as G, trace 8,2: refusal 7
     ∷ record { given = seriesAt empty (8 ∷ 2 ∷ []); paper = refused 7 }
+    -- I: trace 0 as a series: one bucket of one period, (0, 0), cost 4
+    ∷ record { given = seriesAt printed (0 ∷ []); paper = figures (pos 1 ∷ pos 4 ∷ pos 1 ∷ pos 0 ∷ pos 0 ∷ []) }
     -- the printed case: two buckets (5, 4) and (0, 4), cost 40
     ∷ record { given = seriesAt printed case; paper = figures (pos 2 ∷ pos 40 ∷ pos 2 ∷ pos 5 ∷ pos 4 ∷ pos 1 ∷ pos 0 ∷ pos 4 ∷ []) }
     -- … and its sheet, line by line

@@ -19,6 +19,7 @@ use terms::Depth;
 use terms::Factor;
 use terms::Rate;
 use terms::Tariff;
+use text::LONGEST_FIGURE;
 
 fn main() {
     row_a();
@@ -121,11 +122,12 @@ fn print_bucket(x: BucketRecord) {
     }
 }
 
-// A trace of one period with nothing to send.
+// A trace of one period with nothing to send: its single bucket, and its series.
 fn row_i() {
     let trace: [u16; 1] = [0];
     report::words(b"I");
     report::single(single::single(&trace, printed_case()));
+    series_row(b"I", &trace, printed_case());
 }
 
 // A meter of rate 5 and depth 4, offered 4, 8, 2 and 9: sent, over, lost, tokens held.
@@ -177,7 +179,7 @@ fn row_l() {
 
 // A space and a figure in megabits.
 fn figure(z: i64) {
-    let mut text = [0u8; 24];
+    let mut text = [0u8; LONGEST_FIGURE];
     let answer = text::megabits(z, &mut text);
     report::words(b" ");
     report::words(front(&text, report::filled_of(answer)));

@@ -1,8 +1,11 @@
-// What is wrong with a text, in one line on standard error: where, about which figure, and why.
+// What is wrong with a text, in one line on standard error: where, about which figure, why, and the
+// refusal's number.
 use libc::STDERR_FILENO;
 use order_text::Cause;
 use order_text::Fault;
+use order_text::refusal_of;
 use terms::Refusal;
+use terms::number_of;
 use typed_figures::limit_of;
 
 pub fn say(fault: Fault) {
@@ -19,7 +22,9 @@ pub fn say(fault: Fault) {
         Cause::Many => words(b"more than 512 demands"),
         Cause::Few => words(b"the text ends where it is due"),
     }
-    words(b"\n");
+    words(b" (refused ");
+    number(number_of(refusal_of(cause)) as u64);
+    words(b")\n");
 }
 
 pub fn long_text() {
@@ -28,7 +33,7 @@ pub fn long_text() {
 
 pub fn refused(refusal: Refusal) {
     words(b"order: refused ");
-    number(terms::number_of(refusal) as u64);
+    number(number_of(refusal) as u64);
     words(b"\n");
 }
 

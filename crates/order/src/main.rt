@@ -6,11 +6,10 @@ mod faults;
 use console::has_words;
 use console::put_front;
 use console::read_all;
+use libc::STDOUT_FILENO;
+use order_file::LONGEST_ORDER;
 use order_text::TextAnswer;
 use order_text::order_of_text;
-
-// The longest order file: 48 bytes, and 2 for each of 512 demands.
-const FILE_ROOM: usize = 1072;
 
 fn main() {
     if !has_words(
@@ -30,9 +29,9 @@ fn main() {
 }
 
 fn write_order(text: &[u8]) {
-    let mut file = [0; FILE_ROOM];
+    let mut file = [0; LONGEST_ORDER];
     match order_of_text(text, &mut file) {
-        TextAnswer::Written(length) => put_front(&file, length),
+        TextAnswer::Written(length) => put_front(STDOUT_FILENO, &file, length),
         TextAnswer::Faulty(fault) => faults::say(fault),
         // never: the bytes are as many as the longest file has
         TextAnswer::Refused(refusal) => faults::refused(refusal),

@@ -4,6 +4,7 @@ use crate::demands::is_front;
 use crate::demands::print_length;
 use crate::demands::print_list;
 use crate::demands::uneven;
+use order_file::LONGEST_ORDER;
 use order_file::spread;
 use order_file::trace_part;
 use order_file::write_order;
@@ -24,7 +25,7 @@ pub fn edges() {
     edge(&low, 50);
     edge(&high, 50);
     edge(&most, 50);
-    edge(&long, 1072);
+    edge(&long, LONGEST_ORDER);
     around_512();
 }
 
@@ -63,9 +64,9 @@ fn spread_back(bytes: [u8; LENT_BYTES], length: usize, trace: &[u16]) {
 fn around_512() {
     let trace = uneven();
     let mut bytes = written(&trace);
-    cut(bytes, 1071);
-    cut(bytes, 1073);
+    cut(bytes, LONGEST_ORDER - 1);
+    cut(bytes, LONGEST_ORDER + 1);
     bytes[4] = 1;
     bytes[16] = 50;
-    cut(bytes, 1074);
+    cut(bytes, LONGEST_ORDER + 2);
 }

@@ -1,6 +1,7 @@
 // Orders written into bytes that are too few, just enough and more; and orders that are refused.
 use crate::demands::print_length;
 use crate::demands::uneven;
+use order_file::LONGEST_ORDER;
 use order_file::write_order;
 use samples::file_bytes::LENT;
 use samples::file_bytes::LENT_BYTES;
@@ -46,11 +47,11 @@ fn rooms() {
     edge(tariff, &trace, 53);
     edge(tariff, &trace, 54);
     edge(tariff, &trace, 55);
-    longest(1071);
-    longest(1072);
-    longest(1073);
+    longest(LONGEST_ORDER - 1);
+    longest(LONGEST_ORDER);
+    longest(LONGEST_ORDER + 1);
     edge(tariff, &trace[..0], 48);
-    edge(tariff, &longer, 1074);
+    edge(tariff, &longer, LONGEST_ORDER + 2);
 }
 
 fn longest(lent: usize) {
@@ -92,6 +93,6 @@ fn several() {
     edge(bad, &trace[..0], 54);
     edge(bad, &longer, LENT_BYTES);
     edge(good, &trace[..0], 47);
-    edge(good, &longer, 1073);
+    edge(good, &longer, LONGEST_ORDER + 1);
     edge(bad, &longer, 0);
 }

@@ -33,6 +33,10 @@ traceOffset = 48
 abbrev pub orderLength : ℕ → ℕ
 orderLength T = traceOffset + 2 * T
 
+-- the longest order: T is at most 512
+abbrev pub longestOrder : ℕ
+longestOrder = orderLength traceLimit
+
 -- The numbers of 4 bytes, in their order: the header, then the tariff's seven figures.
 abbrev pub orderWords : ℕ → Tariff → List ℕ
 orderWords T t =

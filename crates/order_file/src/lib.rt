@@ -4,6 +4,7 @@ mod orders;
 pub mod spreads;
 mod traces;
 
+pub use orders::LONGEST_ORDER;
 pub use orders::Order;
 pub use orders::OrderAnswer;
 pub use orders::read_order;

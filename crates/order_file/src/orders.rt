@@ -11,6 +11,7 @@ use terms::Rate;
 use terms::RatePrice;
 use terms::Refusal;
 use terms::Tariff;
+use terms::limits::TRACE_LIMIT;
 use terms::periods_in_range;
 use terms::tariff_in_range;
 ghost use Prim.Native.Nat.{_≤_};
@@ -29,6 +30,9 @@ const ORDER_KIND: u32 = 1;
 const TARIFF_OFFSET: usize = 20;
 
 const TRACE_OFFSET: usize = 48;
+
+// The bytes of the longest order.
+pub const LONGEST_ORDER: usize = TRACE_OFFSET + 2 * TRACE_LIMIT;
 
 // What reading an order gives: T and the tariff.
 pub struct Order {

@@ -7,7 +7,6 @@ use mathlib.Core.Option.{Option, none, some}
 use lib.Dec.{leb, eqb}
 use lib.ListN.{length, getD}
 use Rattle.terms.specs.Answer.{Answer, figures, refused}
-use Rattle.terms.specs.Lent.{filled}
 use Rattle.terms.specs.Refusals.{numberOf}
 use Rattle.encoding.specs.Number.{bytesOfAll}
 use Rattle.order_file.specs.Order.{writeOrder}
@@ -136,13 +135,31 @@ writeFigures room ns = writeOrder room (tariffOf ns) (demandsOf ns)
 abbrev pub fileOf : ℕ → List ℕ → Reading (Answer (List ℕ))
 fileOf room text = onRead (writeFigures room) (figuresOf text)
 
--- The file fills the front of lent bytes; a fault changes nothing.
-abbrev pub filledBy : Reading (Answer (List ℕ)) → List ℕ → List ℕ
-filledBy (read a) old = filled a old
-filledBy (faulty x) old = old
+-- Document 01's number of a fault ("Refusals by number"): 3 for more or fewer demands than a trace has, 5 for any other
+-- fault of a figure.
+abbrev pub causeNumber : Cause → ℕ
+causeNumber Byte = 5
+causeNumber Above = 5
+causeNumber Factor = 5
+causeNumber Many = 3
+causeNumber Few = 3
 
--- Each case of the answer in these values and document 01's numbers.
+-- What a text gives in document 01's terms: a fault is the refusal by its number.
+abbrev pub numbered : {A : Type 0} → Reading (Answer A) → Answer A
+numbered (read a) = a
+numbered (faulty x) = refused (causeNumber (x .cause))
+
+abbrev pub orderOf : ℕ → List ℕ → Answer (List ℕ)
+orderOf room text = numbered (fileOf room text)
+
+-- ---- The answer's cases
+
+-- … with the whole fault;
 abbrev pub textSays : TextAnswer → Reading (Answer ℕ)
 textSays (Written n) = read (figures n)
 textSays (Faulty x) = faulty x
 textSays (Refused x) = read (refused (numberOf x))
+
+-- … and in document 01's values and numbers.
+abbrev pub answeredBy : TextAnswer → Answer ℕ
+answeredBy r = numbered (textSays r)

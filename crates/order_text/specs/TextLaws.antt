@@ -20,7 +20,7 @@ use Rattle.order_file.specs.OrderLaws.{ReadsBack, write-read}
 use Rattle.order_file.specs.OrderRules.{length-order}
 use Rattle.typed_figures.specs.Figures.{tariffOf, demandsOf}
 use Rattle.order_text.specs.declared.faults.Fault.{Fault}
-use Rattle.order_text.specs.Text.{Reading, read, faulty, onRead, figuresOf, writeFigures, fileOf, filledBy}
+use Rattle.order_text.specs.Text.{Reading, read, faulty, onRead, figuresOf, writeFigures, fileOf, numbered, orderOf}
 use Rattle.order_text.specs.ScanLaws.{on-read}
 use Rattle.order_text.specs.FigureLaws.{Figures, text-figures, demands-fit, figures-written, figures-short}
 
@@ -39,20 +39,15 @@ order-written ns old t ds r n new et ed er en e =
 module _ (text old : List ℕ) where
   -- r is answered, and the bytes that held `old` hold `new`.
   abbrev pub Gives : Reading (Answer ℕ) → List ℕ → Type 0
-  Gives r new = (r ≡ onRead (onFigures length) (fileOf (length old) text)) × (new ≡ filledBy (fileOf (length old) text) old)
-
-  gives-same : (a : Reading (List ℕ)) → figuresOf text ≡ a
-      → Gives (onRead (onFigures length) (onRead (writeFigures (length old)) a)) (filledBy (onRead (writeFigures (length old)) a) old)
-  gives-same a e =
-      let file : onRead (writeFigures (length old)) a ≡ fileOf (length old) text = ap (onRead (writeFigures (length old))) (sym e) in
-      (ap (onRead (onFigures length)) file, ap (λ (b : Reading (Answer (List ℕ))). filledBy b old) file)
+  Gives r new = (r ≡ onRead (onFigures length) (fileOf (length old) text))
+      × ((numbered r ≡ onFigures length (orderOf (length old) text)) × (new ≡ filled (orderOf (length old) text) old))
 
   pub gives-fault : (x : Fault) → figuresOf text ≡ faulty x → Gives (faulty x) old
-  gives-fault x e = gives-same (faulty x) e
+  gives-fault x e = rw e (refl, (refl, refl))
 
   pub gives-file : (ns : List ℕ) (r : Reading (Answer ℕ)) (new : List ℕ) → figuresOf text ≡ read ns
       → r ≡ read (onFigures length (writeFigures (length old) ns)) → new ≡ filled (writeFigures (length old) ns) old → Gives r new
-  gives-file ns r new e f g = let k = gives-same (read ns) e in (f ∙ k .0, g ∙ k .1)
+  gives-file ns r new e f g = rw e (f, (ap numbered f, g))
 
 -- ---- The file of a text
 

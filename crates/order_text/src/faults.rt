@@ -1,4 +1,9 @@
 // What is wrong with a text.
+use terms::Refusal;
+ghost use mathlib.Core.Path.{_≡_};
+ghost use Rattle.terms.specs.Refusals.{numberOf};
+ghost use Rattle.order_text.specs.Text.{causeNumber};
+
 pub enum Cause {
     // a byte that belongs to no figure
     Byte,
@@ -18,4 +23,17 @@ pub struct Fault {
     pub line: usize,
     pub figure: usize,
     pub cause: Cause,
+}
+
+// The refusal that a fault of this cause is: 3 for too many or too few demands, 5 for any other.
+pub fn refusal_of(cause: Cause) -> Refusal
+    ensures { λ r. ⌜ numberOf r ≡ causeNumber cause ⌝ }
+{
+    match cause {
+        Cause::Byte => Refusal::Figure,
+        Cause::Above => Refusal::Figure,
+        Cause::Factor => Refusal::Figure,
+        Cause::Many => Refusal::Periods,
+        Cause::Few => Refusal::Periods,
+    }
 }

@@ -17,7 +17,7 @@ ghost use Rattle.terms.specs.Answer.{onFigures};
 ghost use Rattle.terms.specs.Lent.{filled};
 ghost use Rattle.encoding.specs.Fill.{fillSays};
 ghost use Rattle.encoding.specs.NumberLaws.{Fit};
-ghost use Rattle.order_text.specs.Text.{fileOf, filledBy, onRead, read, textSays, writeFigures};
+ghost use Rattle.order_text.specs.Text.{answeredBy, fileOf, onRead, orderOf, read, textSays, writeFigures};
 ghost use Rattle.order_text.specs.FigureLaws.{Figures};
 
 pub enum TextAnswer {
@@ -30,11 +30,12 @@ pub enum TextAnswer {
 }
 
 // Reads an order typed as text and writes it as an order file into the front of the bytes: the
-// answer is the file's length; or the first fault of the text; or refusal 6 (bytes fewer than the
-// file). On a fault or a refusal the bytes are as they were.
+// answer is the file's length; or the first fault of the text, refusal 3 or 5; or refusal 6 (bytes
+// fewer than the file). On a fault or a refusal the bytes are as they were.
 pub fn order_of_text(text: &[u8], file: &mut [u8]) -> TextAnswer
     ensures { λ r. ⌜ textSays r ≡ onRead (onFigures length) (fileOf (length (now (file .entry))) (now (text .entry))) ⌝ }
-    ensures { λ _. ⌜ now (file .exit) ≡ filledBy (fileOf (length (now (file .entry))) (now (text .entry))) (now (file .entry)) ⌝ }
+    ensures { λ r. ⌜ answeredBy r ≡ onFigures length (orderOf (length (now (file .entry))) (now (text .entry))) ⌝ }
+    ensures { λ _. ⌜ now (file .exit) ≡ filled (orderOf (length (now (file .entry))) (now (text .entry))) (now (file .entry)) ⌝ }
 {
     let mut figures = [0; FIGURES_LIMIT];
     let at = match read_figures(text, &mut figures) {

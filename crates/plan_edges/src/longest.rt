@@ -2,6 +2,7 @@
 use crate::reading::read_into;
 use list_calls::read_on;
 use list_calls::write_on;
+use plan_file::LONGEST_PLAN;
 use plan_file::PlanAnswer;
 use plan_file::PlanFigures;
 use samples::file_bytes::LENT;
@@ -14,13 +15,13 @@ use samples::lists::record_of;
 use terms::BucketRecord;
 
 pub fn edges() {
-    written(6175);
-    written(6177);
-    let bytes = written(6176);
-    read_into(front(&bytes, 6175), 512);
-    read_into(front(&bytes, 6176), 511);
-    read_into(front(&bytes, 6176), 512);
-    read_into(front(&bytes, 6177), 512);
+    written(LONGEST_PLAN - 1);
+    written(LONGEST_PLAN + 1);
+    let bytes = written(LONGEST_PLAN);
+    read_into(front(&bytes, LONGEST_PLAN - 1), 512);
+    read_into(front(&bytes, LONGEST_PLAN), 511);
+    read_into(front(&bytes, LONGEST_PLAN), 512);
+    read_into(front(&bytes, LONGEST_PLAN + 1), 512);
     again(bytes);
 }
 
@@ -52,7 +53,7 @@ fn written(length: usize) -> [u8; LENT_BYTES] {
 
 // The file read, and what was read written again.
 fn again(bytes: [u8; LENT_BYTES]) {
-    let lent = read_on(front(&bytes, 6176), filled(), ENTRIES);
+    let lent = read_on(front(&bytes, LONGEST_PLAN), filled(), ENTRIES);
     let answer = lent.answer;
     let list = lent.list;
     report::words(b"read and written again:");

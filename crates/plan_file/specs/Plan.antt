@@ -9,7 +9,7 @@ use lib.ListN.{length, take}
 use Rattle.terms.specs.declared.BucketRecord.{BucketRecord}
 use Rattle.terms.specs.Answer.{Answer, figures, refused, weigh, onFigures, andThen}
 use Rattle.terms.specs.Refusals.{numberOf}
-use Rattle.terms.specs.Limits.{costLimit}
+use Rattle.terms.specs.Limits.{costLimit, traceLimit}
 use Rattle.terms.specs.Ranges.{periodsOk, recordOk}
 use Rattle.terms.specs.Records.{Cutting, recordOf, runLength, runRate, runDepth, total}
 use Rattle.plan_file.specs.declared.plans.PlanFigures.{PlanFigures}
@@ -33,6 +33,10 @@ bucketsOffset = 32
 -- file length = 32 + 12 × k
 abbrev pub planLength : ℕ → ℕ
 planLength k = bucketsOffset + 12 * k
+
+-- the longest plan: k is at most T, and T at most 512
+abbrev pub longestPlan : ℕ
+longestPlan = planLength traceLimit
 
 -- The header's numbers, 4 bytes each.
 abbrev pub planWords : ℕ → ℕ → List ℕ

@@ -4,5 +4,6 @@ pub mod lists;
 mod plans;
 mod records;
 
+pub use lists::LONGEST_PLAN;
 pub use plans::PlanAnswer;
 pub use plans::PlanFigures;

@@ -14,6 +14,7 @@ use encoding::numbers::put_words;
 use encoding::numbers::word_at;
 use terms::Refusal;
 use terms::limits::COST_LIMIT;
+use terms::limits::TRACE_LIMIT;
 use terms::periods_in_range;
 ghost use Prim.Native.Nat.{_≤_};
 ghost use mathlib.Core.Path.{_≡_};
@@ -32,6 +33,12 @@ const PLAN_KIND: u32 = 2;
 const COST_OFFSET: usize = 24;
 
 pub const BUCKETS_OFFSET: usize = 32;
+
+// The bytes of a record.
+pub const RECORD_BYTES: usize = 12;
+
+// The bytes of the longest plan.
+pub const LONGEST_PLAN: usize = BUCKETS_OFFSET + RECORD_BYTES * TRACE_LIMIT;
 
 // Plan reading for a list of `room` records.
 pub fn read_lists(
@@ -75,7 +82,7 @@ fn plan_in(bytes: &[u8]) -> PlanAnswer
     if !counts_in_range(periods, buckets) {
         return PlanAnswer::Refused(Refusal::Periods);
     }
-    let length = BUCKETS_OFFSET + 12 * buckets as usize;
+    let length = BUCKETS_OFFSET + RECORD_BYTES * buckets as usize;
     if !placed(bytes, 12, COST_OFFSET, BUCKETS_OFFSET, length) {
         return PlanAnswer::Refused(Refusal::Misplaced);
     }
@@ -126,7 +133,7 @@ pub fn write_lists(
     if !records_in_lists(plan.periods, buckets, runs, rates, depths) {
         return FillAnswer::Refused(Refusal::Figure);
     }
-    let length = BUCKETS_OFFSET + 12 * buckets;
+    let length = BUCKETS_OFFSET + RECORD_BYTES * buckets;
     if bytes.len() < length {
         return FillAnswer::Refused(Refusal::List);
     }
@@ -147,7 +154,7 @@ fn put_header(bytes: &mut [u8], plan: PlanFigures)
         plan.buckets,
         COST_OFFSET as u32,
         BUCKETS_OFFSET as u32,
-        BUCKETS_OFFSET as u32 + 12 * plan.buckets,
+        BUCKETS_OFFSET as u32 + RECORD_BYTES as u32 * plan.buckets,
     ];
     put_words(bytes, 0, &words);
     put_number(bytes, COST_OFFSET, 8, plan.cost);

@@ -1,6 +1,7 @@
 // The bucket records of a plan, in a file and in lists. Public only for this crate's calls, which
 // show what is required.
 use crate::lists::BUCKETS_OFFSET;
+use crate::lists::RECORD_BYTES;
 use encoding::numbers::put_words;
 use encoding::numbers::word_at;
 use record_list::copies::listed_record;
@@ -83,7 +84,7 @@ pub fn records_in_file(bytes: &[u8], periods: u32, buckets: usize) -> bool
     while i < buckets {
         let x = record_at(bytes, at);
         tally = tally.push(x);
-        at += 12;
+        at += RECORD_BYTES;
         i += 1;
     }
     tally.whole(periods)
@@ -132,7 +133,7 @@ pub fn load_figures(
         runs[i] = x.periods;
         rates[i] = x.bucket.rate.0;
         depths[i] = x.bucket.depth.0;
-        at += 12;
+        at += RECORD_BYTES;
         i += 1;
     }
 }
@@ -155,7 +156,7 @@ pub fn put_records(
     while i < buckets {
         let words = [runs[i], rates[i], depths[i]];
         put_words(bytes, next, &words);
-        next += 12;
+        next += RECORD_BYTES;
         i += 1;
     }
 }

@@ -1,6 +1,7 @@
 // Bytes of files: a number in a file changed, a checksum, and lent bytes that are compared after a
 // call.
 use crate::lists::at_most;
+use plan_file::LONGEST_PLAN;
 ghost use mathlib.Core.Path.{_≡_};
 ghost use lib.ListN.{length};
 
@@ -8,10 +9,10 @@ ghost use lib.ListN.{length};
 pub const WORDS: usize = 16;
 
 // The same in bytes.
-pub const FILE_ROOM: usize = 64;
+pub const FILE_ROOM: usize = 4 * WORDS;
 
 // Some more bytes than the longest file has, a plan of 512 buckets.
-pub const LENT_BYTES: usize = 6_184;
+pub const LENT_BYTES: usize = LONGEST_PLAN + 8;
 
 // What lent bytes hold before a call.
 pub const LENT: u8 = 0xAA;

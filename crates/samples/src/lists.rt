@@ -4,10 +4,11 @@ use terms::Bucket;
 use terms::BucketRecord;
 use terms::Depth;
 use terms::Rate;
+use terms::limits::TRACE_LIMIT;
 ghost use Prim.Native.Nat.{_≤_};
 
 // Some more entries than the longest trace has periods.
-pub const ENTRIES: usize = 516;
+pub const ENTRIES: usize = TRACE_LIMIT + 4;
 
 // A number, or the most that there are.
 pub fn at_most(n: usize, most: usize) -> usize

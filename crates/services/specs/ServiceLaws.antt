@@ -20,7 +20,7 @@ use Rattle.order_file.specs.declared.orders.Order.{Order}
 use Rattle.order_file.specs.Ordered.{Ordered, ordered, SpreadsOrder}
 use Rattle.order_file.specs.OrderedLaws.{found-order, demands-are}
 use Rattle.text.specs.Lines.{singleLine}
-use Rattle.text.specs.LineLaws.{single-short}
+use Rattle.text.specs.LineLaws.{longestSingle, single-short}
 
 module _ {A : Type 0} (a : Answer A) (next : A → Answer (List ℕ)) (old : List ℕ) where
   pub refused-fills : (n : ℕ) → a ≡ refused n → Fills (andThen a next) old (refused n) old
@@ -49,7 +49,7 @@ module _ (bs demands demands′ : List ℕ) (found : Answer Order) (p : SpreadsO
 
 -- The single bucket's line is short.
 pub priced-short : (t : Tariff) (ds : List ℕ) (x : Priced) → TariffRange t → length ds ≤ traceLimit → singleOf t ds ≡ figures x
-    → length (singleLine (x .bucket) (x .cost)) ≤ 37
+    → length (singleLine (x .bucket) (x .cost)) ≤ longestSingle
 priced-short t ds x h few e =
     let k = single-cheapest t ds e in
     let b : BucketRange (x .bucket) = record { rates = le-trans (k .serves .rates) (h .rate-caps); depths = le-trans (k .serves .depths) (h .depth-caps) } in

@@ -2,5 +2,7 @@
 // bucket.
 mod lines;
 
+pub use lines::LONGEST_SINGLE;
+pub use lines::LONGEST_TRIAL;
 pub use lines::single_line;
 pub use lines::trial_line;

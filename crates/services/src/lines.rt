@@ -19,7 +19,7 @@ ghost use Rattle.encoding.specs.Fill.{fillSays};
 ghost use Rattle.services.specs.Services.{singleIn, trialIn};
 
 // The bytes of the longest line of a trial, of any figures of their types.
-const LONGEST_TRIAL: usize = 40;
+pub const LONGEST_TRIAL: usize = 40;
 
 // Writes the line of a trial of a bucket on an order's trace into the front of the text and answers
 // its length; or a refusal, and the text is as it was: 1 to 5 as reading the order gives it, 5 (the
@@ -44,7 +44,7 @@ pub fn trial_line(order: &[u8], bucket: Bucket, text: &mut [u8]) -> FillAnswer
 }
 
 // The bytes of the longest line of a single bucket.
-const LONGEST_SINGLE: usize = 37;
+pub const LONGEST_SINGLE: usize = 37;
 
 // Writes the line of the single bucket for an order into the front of the text and answers its
 // length; or a refusal, and the text is as it was: 1 to 5 as reading the order gives it, 7 (no

@@ -1,6 +1,7 @@
 // Orders of 512 periods, and the file of 513.
 use crate::orders::bucket_of;
 use crate::orders::services;
+use order_file::LONGEST_ORDER;
 use order_file::write_order;
 use samples::file_bytes::LENT;
 use samples::file_bytes::LENT_BYTES;
@@ -28,11 +29,11 @@ fn feature_rooms() {
     let mut file = [LENT; LENT_BYTES];
     write_order(tariff, &trace, &mut file);
     let bucket = bucket_of(4095, 1000);
-    services(front(&file, 1072), bucket, FEATURE_SHEET - 1);
-    services(front(&file, 1072), bucket, FEATURE_SHEET);
+    services(front(&file, LONGEST_ORDER), bucket, FEATURE_SHEET - 1);
+    services(front(&file, LONGEST_ORDER), bucket, FEATURE_SHEET);
     file[4] = 1;
     file[16] = 50;
-    services(front(&file, 1074), bucket, LENT_BYTES);
+    services(front(&file, LONGEST_ORDER + 2), bucket, LENT_BYTES);
 }
 
 // Each period has its own bucket, and the sheet needs more room than the other texts have.
@@ -41,7 +42,7 @@ fn widest() {
     let mut file = [LENT; LENT_BYTES];
     write_order(with_fee(0), &trace, &mut file);
     let mut text = [0u8; LONGEST_SHEET];
-    let answer = sheets::sheet(front(&file, 1072), &mut text);
+    let answer = sheets::sheet(front(&file, LONGEST_ORDER), &mut text);
     report::words(b"widest:");
     report::fill(answer);
     report::end_line();

@@ -1,4 +1,4 @@
--- How long a sheet can be: 29 bytes for its first line and 32 for each bucket's.
+-- How long a sheet can be: its first line, and a line for each bucket.
 -- Assumes nothing.
 use Prim.Native.Nat.{ℕ, suc, _+_, _-_, _*_, _^_, _≤_, _<_}
 use native.Mathlib.Omega.{arith}
@@ -11,6 +11,7 @@ use lib.ListN.{length, take, drop, length-append, length-take, length-drop}
 use lib.Signed.{_≤ℤ_, nonNeg, leZ}
 use Rattle.terms.specs.declared.Bucket.{Bucket}
 use Rattle.terms.specs.declared.Tariff.{Tariff}
+use Rattle.terms.specs.Limits.{traceLimit}
 use Rattle.terms.specs.RangeLaws.{BucketRange, TariffRange}
 use Rattle.terms.specs.Records.{Cutting, runLength}
 use Rattle.bucket.specs.Least.{least-first}
@@ -28,6 +29,16 @@ use Rattle.text.specs.MegabitsLaws.{megabits-short}
 use Rattle.text.specs.PutLaws.{ended-length}
 use Rattle.planning.specs.PlannedLaws.{served-range}
 use Rattle.sheets.specs.Sheet.{runLine, runLines}
+use Rattle.sheets.specs.SpareLaws.{run-spare}
+
+abbrev pub longestFirstLine : ℕ
+longestFirstLine = 29
+
+abbrev pub longestBucketLine : ℕ
+longestBucketLine = 32
+
+abbrev pub longestSheet : ℕ
+longestSheet = longestFirstLine + longestBucketLine * traceLimit
 
 -- ---- The spare of a carried run
 
@@ -53,7 +64,7 @@ no-sign (negsuc n) h = absurd (true≢false (sym h))
 -- ---- Lines
 
 line-short : (first last : ℕ) (b : Bucket) (z : ℤ) → first < 1000 → last < 1000 → BucketRange b → nonNeg z ≡ true → natAbs z < 10 ^ 4 * 1000
-    → length (bucketLine first last b z) ≤ 32
+    → length (bucketLine first last b z) ≤ longestBucketLine
 line-short first last b z hf hl hb hn hz =
     let r = pos (b .rate .0) in
     let d = pos (b .depth .0) in
@@ -81,7 +92,7 @@ line-short first last b z hf hl hb hn hz =
       no-sign z hn,
     )
 
-pub plan-line-short : (periods buckets cost : ℕ) → periods < 1000 → buckets < 1000 → cost < 10 ^ 15 → length (planLine periods buckets cost) ≤ 29
+pub plan-line-short : (periods buckets cost : ℕ) → periods < 1000 → buckets < 1000 → cost < 10 ^ 15 → length (planLine periods buckets cost) ≤ longestFirstLine
 plan-line-short periods buckets cost hp hb hc =
     let e₁ = ended planWord space in
     let e₂ = ended (numeral periods) space in
@@ -104,16 +115,16 @@ plan-line-short periods buckets cost hp hb hc =
 
 module _ (t : Tariff) (h : TariffRange t) where
   run-short : (first : ℕ) (b : Bucket) (ds : List ℕ) → first < 1000 → first + length ds - 1 < 1000 → BucketRange b
-      → carriesFrom (b .rate .0) (b .depth .0) (startOf (t .factor .p) (t .factor .q) (b .depth .0)) ds ≡ true → length (runLine (t .factor) first b ds) ≤ 32
+      → carriesFrom (b .rate .0) (b .depth .0) (startOf (t .factor .p) (t .factor .q) (b .depth .0)) ds ≡ true → length (runLine (t .factor) first b ds) ≤ longestBucketLine
   unfolding trialFigures
   run-short first b ds hf hl hb hc =
       let r = b .rate .0 in
       let B = b .depth .0 in
       let y = startOf (t .factor .p) (t .factor .q) B in
-      line-short first (first + length ds - 1) b (spareFrom r B y ds) hf hl hb (carried-spare r B y ds ∙ hc)
+      line-short first (first + length ds - 1) b (spareFrom r B y ds) hf hl hb (run-spare (t .factor) b ds hc)
       (omega (arith, spare-small r B y ds hc, start-le (t .factor .p) (t .factor .q) B (h .factor .part), hb .rates, hb .depths))
 
-  pub runs-short : {ds : List ℕ} {xs : Cutting} → Carried t ds xs → (first : ℕ) → first + length ds ≤ 513 → length (runLines (t .factor) first ds xs) ≤ 32 * length xs
+  pub runs-short : {ds : List ℕ} {xs : Cutting} → Carried t ds xs → (first : ℕ) → first + length ds ≤ traceLimit + 1 → length (runLines (t .factor) first ds xs) ≤ longestBucketLine * length xs
   unfolding runLines
   runs-short none first l = omega arith
   runs-short (run {ds} {x} {xs} f c) first l =

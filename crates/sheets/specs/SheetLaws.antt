@@ -28,15 +28,11 @@ use Rattle.text.specs.PutLaws.{Puts, Room}
 use Rattle.text.specs.ChainLaws.{first-of-two, second-of-two, two}
 use Rattle.planning.specs.declared.orders.PlannedOrder.{PlannedOrder}
 use Rattle.planning.specs.Planning.{Planned, planned, plannedFigures}
-use Rattle.planning.specs.PlannedLaws.{planned-cheapest, carried-sum, served-range}
+use Rattle.planning.specs.PlannedLaws.{IsPlanned, planned-cheapest, carried-sum, served-range}
 use Rattle.planning.specs.CallLaws.{PlansOrder, found-plan, found-as, found-is, trace-is, trace-inside, plan-is}
 use Rattle.sheets.specs.Sheet.{runLines, sheetText, sheetIn}
 use Rattle.sheets.specs.RunLaws.{Printable}
-use Rattle.sheets.specs.LengthLaws.{plan-line-short, runs-short}
-
--- The longest sheet.
-abbrev pub longestSheet : ℕ
-longestSheet = 16413
+use Rattle.sheets.specs.LengthLaws.{longestSheet, plan-line-short, runs-short}
 
 -- What is printed of a plan from the lists that hold its demands and records.
 abbrev pub shownText : PlannedOrder → List ℕ → List ℕ → List ℕ → List ℕ → List ℕ
@@ -61,6 +57,19 @@ module _ (t : Tariff) (h : TariffRange t) where
   carried-ranges : {ds : List ℕ} {xs : Cutting} → Carried t ds xs → Each RecordRange xs
   carried-ranges none = tt
   carried-ranges (run f c) = (served-range t h f, carried-ranges c)
+
+-- The sheet of an order has a first line and a line for each of at most 512 buckets.
+pub sheet-short : {space room : ℕ} {bs : List ℕ} {x : Planned} → IsPlanned space room bs x → length (sheetText x) ≤ longestSheet
+sheet-short {space} {room} {bs} {x} p =
+    let r = ordered-range (p .as-ordered) in
+    let t = x .order .tariff in
+    let c = planned-cheapest p .carried in
+    let few = carried-count t c in
+    let n : x .order .periods ≡ length (x .demands) = sym (ordered-count (p .as-ordered)) in
+    let first = planLine (x .order .periods) (length (x .cutting)) (trueCost t (x .cutting)) in
+    let lines = runLines (t .factor) 1 (x .demands) (x .cutting) in
+    let short = plan-line-short (x .order .periods) (length (x .cutting)) (trueCost t (x .cutting)) (omega (arith, n, r .0 .few)) (omega (arith, few, r .0 .few)) (omega (arith, carried-cost t (r .1) c, r .0 .few)) in
+    omega (arith, length-append first lines, short, runs-short t (r .1) c 1 (omega (arith, r .0 .few)), few, r .0 .few)
 
 -- ---- A plan that was found
 
@@ -115,18 +124,7 @@ module _ (bs demands : List ℕ) (plan : RecordLists) (demands′ runs rates dep
             printable = subst (λ (g : Factor). Printable g (take (y .order .periods) demands′) (recordsOf (y .plan .buckets) runs rates depths)) factor-is
                 (subst (λ (ds : List ℕ). Printable (t .factor) ds (recordsOf (y .plan .buckets) runs rates depths)) (sym demands-are)
                 (subst (Printable (t .factor) (x .demands)) (sym records-are) ready));
-            short = subst (λ (zs : List ℕ). length zs ≤ longestSheet) (sym text-is) (
-                let n : x .order .periods ≡ length (x .demands) = sym (ordered-count (is .as-ordered)) in
-                let first = planLine (x .order .periods) (length (x .cutting)) (trueCost t (x .cutting)) in
-                let lines = runLines (t .factor) 1 (x .demands) (x .cutting) in
-                omega (
-                  arith,
-                  length-append first lines,
-                  plan-line-short (x .order .periods) (length (x .cutting)) (trueCost t (x .cutting)) (omega (arith, n, r .0 .few)) (omega (arith, few-runs)) (omega (arith, carried-cost t (r .1) carried, r .0 .few)),
-                  runs-short t (r .1) carried 1 (omega (arith, r .0 .few)),
-                  few-runs,
-                )
-                );
+            short = subst (λ (zs : List ℕ). length zs ≤ longestSheet) (sym text-is) (sheet-short is);
           }
 
     -- a text filled from the lists is filled from the definition

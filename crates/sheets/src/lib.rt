@@ -3,5 +3,7 @@ mod plans;
 mod printed;
 mod runs;
 
+pub use plans::LONGEST_BUCKET_LINE;
+pub use plans::LONGEST_FIRST_LINE;
 pub use plans::LONGEST_SHEET;
 pub use printed::sheet;

@@ -2,14 +2,22 @@
 // calls, which show what is required.
 use crate::runs::put_runs;
 use planning::orders::PlannedOrder;
+use terms::limits::TRACE_LIMIT;
 use text::lines::put_plan_line;
 ghost use mathlib.Core.Path.{_≡_};
 ghost use lib.ListN.{length};
 ghost use Rattle.text.specs.PutLaws.{Puts};
-ghost use Rattle.sheets.specs.SheetLaws.{Shown, longestSheet, shownText};
+ghost use Rattle.sheets.specs.LengthLaws.{longestSheet};
+ghost use Rattle.sheets.specs.SheetLaws.{Shown, shownText};
 
-// The bytes of the longest sheet: 29 for its first line and 32 for each of 512 buckets.
-pub const LONGEST_SHEET: usize = 16_413;
+// The bytes of the longest first line.
+pub const LONGEST_FIRST_LINE: usize = 29;
+
+// The bytes of the longest line of a bucket.
+pub const LONGEST_BUCKET_LINE: usize = 32;
+
+// The bytes of the longest sheet.
+pub const LONGEST_SHEET: usize = LONGEST_FIRST_LINE + LONGEST_BUCKET_LINE * TRACE_LIMIT;
 
 // Stores a plan's sheet at the front of a text.
 pub fn put_sheet(

@@ -3,6 +3,7 @@ use console::ORDER_ROOM;
 use console::has_words;
 use console::print;
 use console::read_all;
+use services::LONGEST_SINGLE;
 use services::single_line;
 
 fn main() {
@@ -14,7 +15,7 @@ fn main() {
     }
     let mut order = [0u8; ORDER_ROOM];
     let length = read_all(&mut order);
-    let mut text = [0u8; 64];
+    let mut text = [0u8; LONGEST_SINGLE];
     let answer = single_line(&order[..length], &mut text);
     print(answer, &text);
 }

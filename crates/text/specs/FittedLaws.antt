@@ -1,5 +1,5 @@
--- A text that fits its room fills the front of what is lent; another is refused. In between a text stands ready in an array of its
--- own.
+-- A text that fits its room fills the front of what is lent; another is refused. A text whose length is not known beforehand
+-- stands ready in an array of its own in between.
 -- Assumes nothing.
 use Prim.Native.Nat.{ℕ, _≤_, _<_}
 use native.Mathlib.Omega.{arith}
@@ -18,10 +18,16 @@ module _ (ready old : List ℕ) where
   pub too-short : length old < length ready → Fills (fitted (length old) ready) old (refused 6) old
   too-short h = fill-refused (fitted (length old) ready) old 6 (ap (λ (b : Bool). weigh b 6 (figures ready)) (lt-leb (length ready) (length old) h))
 
-  pub stored-ready : length ready ≤ length old → (new : List ℕ) → new ≡ sets old 0 ready → Fills (fitted (length old) ready) old (figures (length ready)) new
-  stored-ready h new e =
-      let f : fitted (length old) ready ≡ figures ready = ap (λ (b : Bool). weigh b 6 (figures ready)) (le-leb (length ready) (length old) h) in
-      fill-stored (fitted (length old) ready) old ready new (length ready) f refl h e
+  module _ (h : length ready ≤ length old) (new : List ℕ) where
+    fits : fitted (length old) ready ≡ figures ready
+    fits = ap (λ (b : Bool). weigh b 6 (figures ready)) (le-leb (length ready) (length old) h)
+
+    pub stored-ready : new ≡ sets old 0 ready → Fills (fitted (length old) ready) old (figures (length ready)) new
+    stored-ready e = fill-stored (fitted (length old) ready) old ready new (length ready) fits refl h e
+
+    -- written into the lent text directly
+    pub put-fills : (n : ℕ) → Puts old 0 ready new n → Fills (fitted (length old) ready) old (figures n) new
+    put-fills n p = fill-stored (fitted (length old) ready) old ready new n fits (omega (arith, p .place)) h (p .stored)
 
 -- An array of zeros has its length.
 abbrev pub zeros : ℕ → List ℕ

@@ -1,8 +1,8 @@
 -- How long the lines are.
 -- Assumes nothing.
-use Prim.Native.Nat.{ℕ, _^_, _≤_, _<_}
+use Prim.Native.Nat.{ℕ, _+_, _^_, _≤_, _<_}
 use native.Mathlib.Omega.{arith}
-use mathlib.Core.Path.{_≡_, refl}
+use mathlib.Core.Path.{_≡_}
 use mathlib.Core.List.{_++_}
 use lib.IntN.{ℤ, pos, natAbs}
 use lib.ListN.{length, length-append}
@@ -11,28 +11,47 @@ use Rattle.terms.specs.declared.refusal.Refusal.{Refusal}
 use Rattle.terms.specs.declared.refusal.Refusal.the-variants.{Short, Foreign, Periods, Misplaced, Figure, List, NoPlan, Meter, Full}
 use Rattle.terms.specs.RangeLaws.{BucketRange}
 use Rattle.terms.specs.Refusals.{numberOf}
-use Rattle.text.specs.Numeral.{numeralIn, numeral, ended}
+use Rattle.text.specs.Numeral.{numeral, ended}
 use Rattle.text.specs.Megabits.{megabits}
-use Rattle.text.specs.Lines.{newline, space, refusalLine, singleLine, singleWord, trialLine, trialWord}
+use Rattle.text.specs.Lines.{newline, space, refusalLine, refusedWord, singleLine, singleWord, trialLine, trialWord}
 use Rattle.text.specs.NumeralLaws.{numeral-short}
 use Rattle.text.specs.MegabitsLaws.{megabits-short, figure-short}
 use Rattle.text.specs.PutLaws.{ended-length}
 
--- Every number of a refusal has one digit.
-pub refusal-length : (x : Refusal) → length (refusalLine (numberOf x)) ≡ 10
-unfolding numeralIn
-refusal-length Short = refl
-refusal-length Foreign = refl
-refusal-length Periods = refl
-refusal-length Misplaced = refl
-refusal-length Figure = refl
-refusal-length List = refl
-refusal-length NoPlan = refl
-refusal-length Meter = refl
-refusal-length Full = refl
+-- ---- A refusal
 
--- A trial: the spare has 64 bits and the discards have 32.
-pub trial-short : (spare : ℤ) (over : ℕ) → natAbs spare ≤ 2 ^ 63 → over < 2 ^ 32 → length (trialLine spare over) ≤ 40
+-- The bytes beside the number's digits: the word, the space and the newline.
+pub refusal-length : (n : ℕ) → length (refusalLine n) ≡ 9 + length (numeral n)
+refusal-length n = omega (arith, length-append (ended refusedWord space) (ended (numeral n) newline), ended-length (numeral n) newline)
+
+-- The longest line of a refusal, of any number of 32 bits.
+abbrev pub longestRefusal : ℕ
+longestRefusal = 19
+
+pub refusal-short : (n : ℕ) → n < 2 ^ 32 → length (refusalLine n) ≤ longestRefusal
+refusal-short n h = omega (arith, refusal-length n, numeral-short 19 9 n (omega (arith, h)))
+
+-- Every refusal has such a number.
+pub refusals-short : (x : Refusal) → length (refusalLine (numberOf x)) ≤ longestRefusal
+refusals-short x = refusal-short (numberOf x) (small x)
+  where
+    small : (y : Refusal) → numberOf y < 2 ^ 32
+    small Short = omega arith
+    small Foreign = omega arith
+    small Periods = omega arith
+    small Misplaced = omega arith
+    small Figure = omega arith
+    small List = omega arith
+    small NoPlan = omega arith
+    small Meter = omega arith
+    small Full = omega arith
+
+-- ---- A trial: the spare has 64 bits and the discards have 32
+
+abbrev pub longestTrial : ℕ
+longestTrial = 40
+
+pub trial-short : (spare : ℤ) (over : ℕ) → natAbs spare ≤ 2 ^ 63 → over < 2 ^ 32 → length (trialLine spare over) ≤ longestTrial
 trial-short spare over h k =
     let e₁ = ended trialWord space in
     let e₂ = ended (megabits spare) space in
@@ -47,8 +66,12 @@ trial-short spare over h k =
       megabits-short (pos over) 6 (omega (arith, k)),
     )
 
--- A single bucket in its range.
-pub single-short : (b : Bucket) (cost : ℕ) → BucketRange b → cost < 10 ^ 14 → length (singleLine b cost) ≤ 37
+-- ---- A single bucket in its range
+
+abbrev pub longestSingle : ℕ
+longestSingle = 37
+
+pub single-short : (b : Bucket) (cost : ℕ) → BucketRange b → cost < 10 ^ 14 → length (singleLine b cost) ≤ longestSingle
 single-short b cost h l =
     let r = pos (b .rate .0) in
     let d = pos (b .depth .0) in

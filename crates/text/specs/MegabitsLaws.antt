@@ -120,6 +120,9 @@ sign-short : (z : ℤ) → length (sign z) ≤ 1
 sign-short (pos n) = omega arith
 sign-short (negsuc n) = omega arith
 
--- A figure of 64 bits.
-pub figure-short : (z : ℤ) → natAbs z ≤ 2 ^ 63 → length (megabits z) ≤ 21
+-- The longest figure of 64 bits.
+abbrev pub longestFigure : ℕ
+longestFigure = 21
+
+pub figure-short : (z : ℤ) → natAbs z ≤ 2 ^ 63 → length (megabits z) ≤ longestFigure
 figure-short z h = omega (arith, megabits-short z 15 (omega (arith, h)), sign-short z)

@@ -6,5 +6,7 @@ pub mod lines;
 mod numerals;
 mod texts;
 
+pub use texts::LONGEST_FIGURE;
+pub use texts::LONGEST_REFUSAL;
 pub use texts::megabits;
 pub use texts::refusal_line;

@@ -3,6 +3,7 @@ use order_text::Cause;
 use order_text::Fault;
 use order_text::TextAnswer;
 use order_text::order_of_text;
+use order_text::refusal_of;
 use samples::file_bytes::LENT;
 use samples::file_bytes::LENT_BYTES;
 use samples::file_bytes::checksum;
@@ -48,6 +49,7 @@ fn print_fault(fault: Fault) {
         Cause::Many => report::words(b" many"),
         Cause::Few => report::words(b" few"),
     }
+    report::refusal(refusal_of(cause));
 }
 
 // The length of the file; 0 where none is written.

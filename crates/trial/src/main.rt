@@ -6,6 +6,7 @@ use console::print;
 use console::put;
 use console::read_all;
 use libc::STDERR_FILENO;
+use services::LONGEST_TRIAL;
 use services::trial_line;
 use terms::Bucket;
 use terms::Depth;
@@ -23,14 +24,14 @@ fn main() {
     let NumberAnswer::Number(rate) = argument(1) else {
         put(
             STDERR_FILENO,
-            b"trial: RATE is a whole number of kilobits, 0 to 4294967295\n",
+            b"trial: RATE is a whole number of kilobits, 0 to 4294967295 (refused 5)\n",
         );
         return;
     };
     let NumberAnswer::Number(depth) = argument(2) else {
         put(
             STDERR_FILENO,
-            b"trial: DEPTH is a whole number of kilobits, 0 to 4294967295\n",
+            b"trial: DEPTH is a whole number of kilobits, 0 to 4294967295 (refused 5)\n",
         );
         return;
     };
@@ -41,9 +42,12 @@ fn main() {
     print_trial(bucket);
 }
 
-// The number that an argument stands for. A word of more than 64 bytes is none.
+// The bytes of an argument; a longer word counts as none.
+const WORD_ROOM: usize = 64;
+
+// The number that an argument stands for.
 fn argument(index: usize) -> NumberAnswer {
-    let mut word = [0u8; 64];
+    let mut word = [0u8; WORD_ROOM];
     let length = os::arg(index, &mut word);
     number_of(&word[..length])
 }
@@ -51,7 +55,7 @@ fn argument(index: usize) -> NumberAnswer {
 fn print_trial(bucket: Bucket) {
     let mut order = [0u8; ORDER_ROOM];
     let length = read_all(&mut order);
-    let mut text = [0u8; 64];
+    let mut text = [0u8; LONGEST_TRIAL];
     let answer = trial_line(&order[..length], bucket, &mut text);
     print(answer, &text);
 }

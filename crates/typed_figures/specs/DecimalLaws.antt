@@ -6,16 +6,17 @@ use native.Mathlib.Nat.{zero-lt-suc, mod-add-div, mod-lt}
 use mathlib.Core.Path.{_≡_, refl, sym, ap, subst, _∙_}
 use mathlib.Core.Bool.{Bool, true, false, cond}
 use mathlib.Core.List.{List, [], _∷_, _++_}
-use mathlib.Core.Option.{none, some, bind}
+use mathlib.Core.Option.{none, some}
 use borrow.Author.Tests.{leb-true, le-leb, lt-leb}
 use lib.Dec.{leb}
 use lib.ListN.{length, drop, getD, length-append, drop-of-length-le}
+use Rattle.terms.specs.Answer.{figures, refused}
 use Rattle.terms.specs.Bools.{and-both, both-and}
 use Rattle.terms.specs.Records.{Each}
 use Rattle.encoding.specs.StoreLaws.{drop-next}
 use Rattle.text.specs.Numeral.{digit, numeralIn, numeral}
 use Rattle.text.specs.NumeralLaws.{by-digits, numeral-small, numeral-large}
-use Rattle.typed_figures.specs.Decimal.{isDigit, pushed, numberLimit, numberFrom, numberIn}
+use Rattle.typed_figures.specs.Decimal.{isDigit, appended, pushed, numberLimit, numberFrom, numberIn}
 
 pub record DigitRange (b : ℕ) : Type 0 where
   pub from : 48 ≤ b
@@ -27,18 +28,28 @@ digit-range b h = let k = and-both (leb 48 b) (leb b 57) h in omega (arith, leb-
 -- ---- One more digit
 
 module _ (limit v b : ℕ) where
-  pub push-above : limit < v * 10 + (b - 48) → pushed limit v b ≡ none
-  push-above h = rw (lt-leb (v * 10 + (b - 48)) limit h)
+  pub push-above : limit < appended v b → pushed limit v b ≡ none
+  push-above h = rw (lt-leb (appended v b) limit h)
 
-  pub push-within : v * 10 + (b - 48) ≤ limit → pushed limit v b ≡ some (v * 10 + (b - 48))
-  push-within h = rw (le-leb (v * 10 + (b - 48)) limit h)
+  pub push-within : appended v b ≤ limit → pushed limit v b ≡ some (appended v b)
+  push-within h = rw (le-leb (appended v b) limit h)
+
+  push-none : pushed limit v b ≡ none → leb (appended v b) limit ≡ false
+  push-none = go (leb (appended v b) limit)
+    where
+      go : (t : Bool) → cond t (some (appended v b)) none ≡ none → t ≡ false
+      go true e = let z : _≡_ {A = ℕ} 0 1 = cc in absurd (omega arith)
+      go false e = refl
+
+  push-some : (n : ℕ) → pushed limit v b ≡ some n → (leb (appended v b) limit ≡ true) × (appended v b ≡ n)
+  push-some n = go (leb (appended v b) limit)
+    where
+      go : (t : Bool) → cond t (some (appended v b)) none ≡ some n → (t ≡ true) × (appended v b ≡ n)
+      go true e = (refl, cc)
+      go false e = let z : _≡_ {A = ℕ} 0 1 = cc in absurd (omega arith)
 
   pub push-limit : (n : ℕ) → pushed limit v b ≡ some n → n ≤ limit
-  push-limit n = go (leb (v * 10 + (b - 48)) limit) refl
-    where
-      go : (t : Bool) → leb (v * 10 + (b - 48)) limit ≡ t → cond t (some (v * 10 + (b - 48))) none ≡ some n → n ≤ limit
-      go true h e = let m : v * 10 + (b - 48) ≡ n = cc in omega (arith, leb-true (v * 10 + (b - 48)) limit h)
-      go false h e = let z : _≡_ {A = ℕ} 0 1 = cc in omega arith
+  push-limit n e = let k = push-some n e in omega (arith, leb-true (appended v b) limit (k .0), k .1)
 
 -- ---- A word, from its i-th byte on
 
@@ -46,12 +57,12 @@ pub number-begin : (w : List ℕ) → 0 < length w → numberFrom 0 w ≡ number
 number-begin [] h = absurd (omega arith)
 number-begin (b ∷ bs) h = refl
 
-pub number-empty : (w : List ℕ) → length w ≡ 0 → numberIn w ≡ none
+pub number-empty : (w : List ℕ) → length w ≡ 0 → numberIn w ≡ refused 5
 number-empty [] h = refl
 number-empty (b ∷ bs) h = absurd (omega arith)
 
 module _ (w : List ℕ) (v i : ℕ) where
-  pub number-end : length w ≤ i → numberFrom v (drop i w) ≡ some v
+  pub number-end : length w ≤ i → numberFrom v (drop i w) ≡ figures v
   unfolding numberFrom
   number-end l = ap (numberFrom v) (drop-of-length-le w l)
 
@@ -59,17 +70,19 @@ module _ (w : List ℕ) (v i : ℕ) where
     abbrev b : ℕ
     b = getD w i 0
 
-    pub number-other : isDigit b ≡ false → numberFrom v (drop i w) ≡ none
+    pub number-other : isDigit b ≡ false → numberFrom v (drop i w) ≡ refused 5
     unfolding numberFrom
     number-other h = ap (numberFrom v) (drop-next w i 0 l) ∙ rw h
 
-    pub number-above : isDigit b ≡ true → pushed numberLimit v b ≡ none → numberFrom v (drop i w) ≡ none
-    unfolding numberFrom bind
-    number-above h e = ap (numberFrom v) (drop-next w i 0 l) ∙ rw (h, e)
+    pub number-above : isDigit b ≡ true → pushed numberLimit v b ≡ none → numberFrom v (drop i w) ≡ refused 5
+    unfolding numberFrom
+    number-above h e = ap (numberFrom v) (drop-next w i 0 l) ∙ rw (h, push-none numberLimit v b e)
 
     pub number-next : (n : ℕ) → isDigit b ≡ true → pushed numberLimit v b ≡ some n → numberFrom v (drop i w) ≡ numberFrom n (drop (i + 1) w)
-    unfolding numberFrom bind
-    number-next n h e = ap (numberFrom v) (drop-next w i 0 l) ∙ rw (h, e)
+    unfolding numberFrom
+    number-next n h e =
+        let k = push-some numberLimit v b n e in
+        ap (numberFrom v) (drop-next w i 0 l) ∙ rw (h, k .0, k .1)
 
 -- ---- The digits of a number
 
@@ -135,16 +148,15 @@ digits-some = by-digits (λ more n. 0 < length (numeralIn more n)) one next 19
     next more n h l = omega (arith, ap length (numeral-large more n h), length-append (numeralIn more (n / 10)) (digit (n % 10) ∷ []))
 
 -- The digits of a number of 32 bits are read back as that number.
-number-digits : (v : ℕ) (bs : List ℕ) → Digits bs → valueFrom v bs ≤ numberLimit → numberFrom v bs ≡ some (valueFrom v bs)
-unfolding numberFrom valueFrom bind
+number-digits : (v : ℕ) (bs : List ℕ) → Digits bs → valueFrom v bs ≤ numberLimit → numberFrom v bs ≡ figures (valueFrom v bs)
+unfolding numberFrom valueFrom
 number-digits v [] ds l = refl
 number-digits v (b ∷ bs) ds l =
-    let n = v * 10 + (b - 48) in
-    let e = push-within numberLimit v b (omega (arith, value-grows n bs)) in
-    rw (ds .0, e) (number-digits n bs (ds .1) l)
+    let n = appended v b in
+    rw (ds .0, le-leb n numberLimit (omega (arith, value-grows n bs))) (number-digits n bs (ds .1) l)
 
-pub number-printed : (n : ℕ) → n ≤ numberLimit → numberIn (numeral n) ≡ some n
+pub number-printed : (n : ℕ) → n ≤ numberLimit → numberIn (numeral n) ≡ figures n
 number-printed n l =
     let h : n < 10 ^ 20 = omega (arith, l) in
     let e = value-digits n h in
-    sym (number-begin _ (digits-some n h)) ∙ number-digits 0 (numeral n) (digits-are n h) (omega (arith, e, l)) ∙ ap some e
+    sym (number-begin _ (digits-some n h)) ∙ number-digits 0 (numeral n) (digits-are n h) (omega (arith, e, l)) ∙ ap figures e

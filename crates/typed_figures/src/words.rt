@@ -11,7 +11,7 @@ pub enum NumberAnswer {
     NoNumber,
 }
 
-// The number that a word of decimal digits stands for, or that it is none.
+// The number that a word of decimal digits stands for, or that it is none: refusal 5.
 pub fn number_of(word: &[u8]) -> NumberAnswer
     ensures { λ r. ⌜ numberSays r ≡ numberIn (now (word .entry)) ⌝ }
 {

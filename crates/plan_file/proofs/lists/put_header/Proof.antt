@@ -16,11 +16,14 @@ cast-t5 c = search needs
 cast-t6 : tie.Need-cast-t6
 cast-t6 c = search needs
 
-mul-t7 : tie.Need-mul-t7
-mul-t7 c = search needs
+cast-t7 : tie.Need-cast-t7
+cast-t7 c = search needs
 
-add-t8 : tie.Need-add-t8
-add-t8 c = search needs
+mul-t8 : tie.Need-mul-t8
+mul-t8 c = search needs
+
+add-t9 : tie.Need-add-t9
+add-t9 c = search needs
 
 slice-aggregate-put-words : tie.Need-slice-aggregate-put-words
 slice-aggregate-put-words c = search needs
@@ -49,8 +52,9 @@ put-header-spec =
     cast-t4
     cast-t5
     cast-t6
-    mul-t7
-    add-t8
+    cast-t7
+    mul-t8
+    add-t9
     slice-aggregate-put-words
     put-words-requires
     put-number-requires

@@ -10,6 +10,7 @@ use Rattle.order_file.specs.OrderedLaws.{demands-inside, order-range}
 use Rattle.single.specs.Single.{singleOf, singleSays}
 use Rattle.text.specs.FittedLaws.{long, zeros, ready-count, ready-inside, ready-fills}
 use Rattle.text.specs.Lines.{singleLine}
+use Rattle.text.specs.LineLaws.{longestSingle}
 use Rattle.services.specs.ServiceLaws.{refused-fills, found-fills, order-unfilled, order-filled, priced-short}
 use borrow.Author.Needs.{needs}
 use Rattle.services.proofs.lines.single_line.Statement.{statement}
@@ -26,7 +27,7 @@ found : (y : tie.After-x2) → let x = order-at (y .before .before) in let o = x
     singleOf (o .tariff) (take (o .periods) (spread-at x .spread-order .last .1 .0)) ≡ figures (y .x2 .given .0 .0)
 found y = sym (y .before .before .single .ensures) ∙ ap singleSays (y .x2 .given .1)
 
-room : (y : tie.After-x2) → length (singleLine (y .x2 .given .0 .0 .bucket) (y .x2 .given .0 .0 .cost)) ≤ length (zeros 37)
+room : (y : tie.After-x2) → length (singleLine (y .x2 .given .0 .0 .bucket) (y .x2 .given .0 .0 .cost)) ≤ length (zeros longestSingle)
 room y =
     let x = order-at (y .before .before) in
     let r = order-range _ _ _ _ (spread-at x .spread-order .ensures) _ (ap orderSays (x .x .given .1)) in
@@ -88,12 +89,12 @@ put-single-line-requires c κs = omega (arith, room (c .before .before))
 array-share-prefix-ready : tie.Need-array-share-prefix-ready
 array-share-prefix-ready c =
     let p = c .before in
-    ready-inside (zeros 37) _ (room (p .before .before .before)) _ _ (p .put-single-line .ensures)
+    ready-inside (zeros longestSingle) _ (room (p .before .before .before)) _ _ (p .put-single-line .ensures)
 
 slice-aggregate-fill : tie.Need-slice-aggregate-fill
 slice-aggregate-fill c =
     let p = c .before .before in
-    ready-count (zeros 37) _ (room (p .before .before .before)) _ _ (p .put-single-line .ensures)
+    ready-count (zeros longestSingle) _ (room (p .before .before .before)) _ _ (p .put-single-line .ensures)
 
 fill-requires : tie.Need-fill-requires
 fill-requires c κs = search needs
@@ -108,7 +109,7 @@ returns-3 c =
     let x = order-at (y .before .before) in
     let old = spread-at x .before .before .before .before .args .text .now in
     order-filled _ _ _ _ (spread-at x .spread-order .ensures) (long 512) _ old _ (ap orderSays (x .x .given .1)) _ _
-    (found-fills _ _ old _ (found y) _ _ (ready-fills (zeros 37) _ (room y) _ _ (p .put-single-line .ensures) old _ _ (c .before .before .fill .ensures)))
+    (found-fills _ _ old _ (found y) _ _ (ready-fills (zeros longestSingle) _ (room y) _ _ (p .put-single-line .ensures) old _ _ (c .before .before .fill .ensures)))
 
 pub single-line-spec : {M : Type 1} → statement M
 single-line-spec =

@@ -14,7 +14,7 @@ use Rattle.order_file.specs.Order.{orderSays}
 use Rattle.order_file.specs.OrderedLaws.{demands-inside}
 use Rattle.text.specs.FittedLaws.{long, zeros, ready-count, ready-inside, ready-fills}
 use Rattle.text.specs.Lines.{trialLine}
-use Rattle.text.specs.LineLaws.{trial-short}
+use Rattle.text.specs.LineLaws.{longestTrial, trial-short}
 use Rattle.services.specs.ServiceLaws.{refused-fills, found-fills, order-unfilled, order-filled}
 use borrow.Author.Needs.{needs}
 use Rattle.services.proofs.lines.trial_line.Statement.{statement}
@@ -33,7 +33,7 @@ figures-at c = c .before .before .before .x2 .given .0 .0
 spare-fits : (c : tie.After-struct-told) → SFits w64 (figures-at c .spare)
 spare-fits c = record { sfits = c .struct-told .given .0 .1 }
 
-room : (c : tie.After-struct-told) → length (trialLine (figures-at c .spare) (figures-at c .over)) ≤ length (zeros 40)
+room : (c : tie.After-struct-told) → length (trialLine (figures-at c .spare) (figures-at c .over)) ≤ length (zeros longestTrial)
 room c = omega (arith, trial-short (figures-at c .spare) (figures-at c .over) (natAbs-le (figures-at c .spare) (c .struct-told .given .0 .1)) (c .struct-told .given .1 .0 .1))
 
 slice-aggregate-spread-order : tie.Need-slice-aggregate-spread-order
@@ -92,12 +92,12 @@ put-trial-line-requires c κs = rw (toZ-ofZ {w = w64} (spare-fits c)) (omega (ar
 array-share-prefix-ready : tie.Need-array-share-prefix-ready
 array-share-prefix-ready c =
     let p = c .before in
-    ready-inside (zeros 40) _ (room (p .before)) _ _ (rw (toZ-ofZ {w = w64} (spare-fits (p .before))) at (p .put-trial-line .ensures))
+    ready-inside (zeros longestTrial) _ (room (p .before)) _ _ (rw (toZ-ofZ {w = w64} (spare-fits (p .before))) at (p .put-trial-line .ensures))
 
 slice-aggregate-fill : tie.Need-slice-aggregate-fill
 slice-aggregate-fill c =
     let p = c .before .before in
-    ready-count (zeros 40) _ (room (p .before)) _ _ (rw (toZ-ofZ {w = w64} (spare-fits (p .before))) at (p .put-trial-line .ensures))
+    ready-count (zeros longestTrial) _ (room (p .before)) _ _ (rw (toZ-ofZ {w = w64} (spare-fits (p .before))) at (p .put-trial-line .ensures))
 
 fill-requires : tie.Need-fill-requires
 fill-requires c κs = search needs
@@ -114,7 +114,7 @@ returns-3 c =
     let old = spread-at x .before .before .before .before .args .text .now in
     order-filled _ _ _ _ (spread-at x .spread-order .ensures) (long 512) _ old _ (ap orderSays (x .x .given .1)) _ _
     (found-fills _ _ old _ (sym (t .trial .ensures) ∙ ap trialSays (y .x2 .given .1)) _ _
-    (ready-fills (zeros 40) _ (room (p .before)) _ _ (rw (toZ-ofZ {w = w64} (spare-fits (p .before))) at (p .put-trial-line .ensures)) old _ _ (c .before .before .fill .ensures)))
+    (ready-fills (zeros longestTrial) _ (room (p .before)) _ _ (rw (toZ-ofZ {w = w64} (spare-fits (p .before))) at (p .put-trial-line .ensures)) old _ _ (c .before .before .fill .ensures)))
 
 pub trial-line-spec : {M : Type 1} → statement M
 trial-line-spec =

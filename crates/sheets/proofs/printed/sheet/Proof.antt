@@ -4,6 +4,7 @@ use native.Mathlib.Nat.{le-of-eq}
 use Rattle.record_list.specs.Lists.{roomOf}
 use Rattle.planning.specs.Planning.{plannedSays}
 use Rattle.text.specs.FittedLaws.{long, zeros, ready-count, ready-inside, ready-fills}
+use Rattle.sheets.specs.LengthLaws.{longestSheet}
 use Rattle.sheets.specs.SheetLaws.{plan-refused, same-room-of, shown, sheet-filled, sheet-room}
 use borrow.Author.Needs.{needs}
 use Rattle.sheets.proofs.printed.sheet.Statement.{statement}
@@ -63,21 +64,21 @@ slice-aggregate-put-sheet-5 c = search needs
 put-sheet-requires : tie.Need-put-sheet-requires
 put-sheet-requires c κs =
     let x = c .before .before .before .before .before .before in
-    (shown _ _ _ _ _ _ _ _ (plan-at x .plan-order .ensures) _ (ap plannedSays (x .x .given .1)) (le-of-eq (sym lists-long)), long 16413)
+    (shown _ _ _ _ _ _ _ _ (plan-at x .plan-order .ensures) _ (ap plannedSays (x .x .given .1)) (le-of-eq (sym lists-long)), long longestSheet)
 
 array-share-prefix-ready : tie.Need-array-share-prefix-ready
 array-share-prefix-ready c =
     let p = c .before in
     let x = order-at p in
     let s = shown _ _ _ _ _ _ _ _ (plan-at x .plan-order .ensures) _ (ap plannedSays (x .x .given .1)) (le-of-eq (sym lists-long)) in
-    ready-inside _ _ (sheet-room s (zeros 16413) (long 16413)) _ _ (p .put-sheet .ensures)
+    ready-inside _ _ (sheet-room s (zeros longestSheet) (long longestSheet)) _ _ (p .put-sheet .ensures)
 
 slice-aggregate-fill : tie.Need-slice-aggregate-fill
 slice-aggregate-fill c =
     let p = c .before .before in
     let x = order-at p in
     let s = shown _ _ _ _ _ _ _ _ (plan-at x .plan-order .ensures) _ (ap plannedSays (x .x .given .1)) (le-of-eq (sym lists-long)) in
-    ready-count _ _ (sheet-room s (zeros 16413) (long 16413)) _ _ (p .put-sheet .ensures)
+    ready-count _ _ (sheet-room s (zeros longestSheet) (long longestSheet)) _ _ (p .put-sheet .ensures)
 
 fill-requires : tie.Need-fill-requires
 fill-requires c κs = search needs
@@ -92,7 +93,7 @@ returns-2 c =
     let old = plan-at x .before .before .before .before .before .before .before .args .text .now in
     let s = shown _ _ _ _ _ _ _ _ (plan-at x .plan-order .ensures) _ (ap plannedSays (x .x .given .1)) (le-of-eq (sym lists-long)) in
     sheet-filled _ _ _ _ _ _ _ _ (plan-at x .plan-order .ensures) _ (ap plannedSays (x .x .given .1)) (long 512) old _ _
-    (ready-fills _ _ (sheet-room s (zeros 16413) (long 16413)) _ _ (p .put-sheet .ensures) old _ _ (c .before .before .fill .ensures))
+    (ready-fills _ _ (sheet-room s (zeros longestSheet) (long longestSheet)) _ _ (p .put-sheet .ensures) old _ _ (c .before .before .fill .ensures))
 
 pub sheet-spec : {M : Type 1} → statement M
 sheet-spec =

@@ -5,13 +5,13 @@ use lib.ListN.{length}
 use lib.Signed.{natAbs-le}
 use mir.Facts.{toZ-ofZ}
 use Rattle.text.specs.Megabits.{megabits}
-use Rattle.text.specs.MegabitsLaws.{figure-short}
+use Rattle.text.specs.MegabitsLaws.{figure-short, longestFigure}
 use Rattle.text.specs.FittedLaws.{ready-count, ready-inside, ready-fills}
 use borrow.Author.Needs.{needs}
 use Rattle.text.proofs.texts.megabits.Statement.{statement}
 use Rattle.text.proofs.texts.megabits.Tie as tie
 
-room : (s : tie.Start) → length (megabits (s .args .figure)) ≤ 21
+room : (s : tie.Start) → length (megabits (s .args .figure)) ≤ longestFigure
 room s = figure-short (s .args .figure) (natAbs-le (s .args .figure) (s .fits .figure .sfits))
 
 slice-aggregate-put-megabits : tie.Need-slice-aggregate-put-megabits

@@ -1,58 +1,65 @@
--- The array is as long as every refusal's line, and its front is the line.
-use Prim.Native.Nat.{_≤_}
+-- The line's length is weighed first, and then the line is stored in the lent text itself.
+use Prim.Native.Nat.{_+_}
 use native.Mathlib.Omega.{arith}
+use mathlib.Core.Path.{_≡_, sym, ap, _∙_}
 use lib.ListN.{length}
 use Rattle.terms.specs.Refusals.{numberOf}
 use Rattle.text.specs.Lines.{refusalLine}
-use Rattle.text.specs.LineLaws.{refusal-length}
-use Rattle.text.specs.FittedLaws.{ready-count, ready-inside, ready-fills}
+use Rattle.text.specs.LineLaws.{refusal-length, refusals-short}
+use Rattle.text.specs.FittedLaws.{too-short, put-fills}
 use borrow.Author.Needs.{needs}
 use Rattle.text.proofs.texts.refusal_line.Statement.{statement}
 use Rattle.text.proofs.texts.refusal_line.Tie as tie
 
-room : (s : tie.Start) → length (refusalLine (numberOf (s .args .why))) ≤ 10
-room s = omega (arith, refusal-length (s .args .why))
-
-slice-aggregate-put-refusal-line : tie.Need-slice-aggregate-put-refusal-line
-slice-aggregate-put-refusal-line c = search needs
+-- the length that is weighed is the line's
+weighed : (c : tie.After-places) → let n = c .before in
+    9 + c .places .result ≡ length (refusalLine (numberOf (n .before .before .args .why)))
+weighed c =
+    let n = c .before in
+    rw (sym (n .number-of .ensures)) (ap (λ k. 9 + k) (c .places .ensures) ∙ sym (refusal-length (n .number-of .result)))
 
 number-of-requires : tie.Need-number-of-requires
 number-of-requires c κs = search needs
 
+cast-places : tie.Need-cast-places
+cast-places c = search needs
+
+places-requires : tie.Need-places-requires
+places-requires c κs = search needs
+
+add-if1 : tie.Need-add-if1
+add-if1 c = omega (arith, weighed c, refusals-short (c .before .before .before .args .why))
+
+returns : tie.Need-returns
+returns c =
+    let s = c .before .before .before .before .args in
+    too-short (refusalLine (numberOf (s .why))) (s .text .now) (omega (arith, weighed (c .before), c .if1 .taken))
+
 put-refusal-line-requires : tie.Need-put-refusal-line-requires
-put-refusal-line-requires c κs = rw (c .number-of .ensures) (omega (arith, room (c .before .before .before)))
-
-array-share-prefix-ready : tie.Need-array-share-prefix-ready
-array-share-prefix-ready c =
-    let p = c .before in
-    ready-inside _ _ (room (p .before .before .before .before)) _ _ (rw (p .before .number-of .ensures) at (p .put-refusal-line .ensures))
-
-slice-aggregate-fill : tie.Need-slice-aggregate-fill
-slice-aggregate-fill c =
+put-refusal-line-requires c κs =
     let p = c .before .before in
-    ready-count _ _ (room (p .before .before .before .before)) _ _ (rw (p .before .number-of .ensures) at (p .put-refusal-line .ensures))
-
-fill-requires : tie.Need-fill-requires
-fill-requires c κs = search needs
+    rw (p .before .number-of .ensures) (omega (arith, weighed p, c .before .if1 .left))
 
 same-length : tie.Need-same-length
 same-length c = search needs
 
-returns : tie.Need-returns
-returns c =
-    let p = c .before .before .before .before .before .before in
-    let s = p .before .before .before .before in
-    ready-fills _ _ (room s) _ _ (rw (p .before .number-of .ensures) at (p .put-refusal-line .ensures)) (s .args .text .now) _ _ (c .before .before .fill .ensures)
+returns-2 : tie.Need-returns-2
+returns-2 c =
+    let l = c .before .before in
+    let p = l .before .before .before in
+    let s = p .before .before .before .args in
+    put-fills (refusalLine (numberOf (s .why))) (s .text .now) (omega (arith, weighed p, l .before .before .if1 .left)) _ _
+    (rw (p .before .number-of .ensures) at (l .put-refusal-line .ensures))
 
 pub refusal-line-spec : {M : Type 1} → statement M
 refusal-line-spec =
     tie.close
     (tie.spec
-    slice-aggregate-put-refusal-line
     number-of-requires
+    cast-places
+    places-requires
+    add-if1
+    returns
     put-refusal-line-requires
-    array-share-prefix-ready
-    slice-aggregate-fill
-    fill-requires
     same-length
-    returns)
+    returns-2)
