@@ -9,11 +9,11 @@ use Rattle.terms.specs.Answer.{Answer, figures, refused, onFigures}
 use Rattle.terms.specs.AnswerLaws.{on-figures, on-refused, then-figures, then-refused, then-found}
 use Rattle.terms.specs.Lent.{filled}
 use Rattle.terms.specs.LentLaws.{filled-front}
-use Rattle.terms.specs.RangeLaws.{TariffRange, PeriodsRange}
+use Rattle.terms.specs.RangeRules.{TariffRange, PeriodsRange}
 use Rattle.order_file.specs.declared.orders.Order.{Order}
-use Rattle.order_file.specs.Order.{readOrder, tracePart, demandsIn, spreadOf}
+use Rattle.order_file.specs.Order.{orderIn, readOrder, tracePart, demandsIn, spreadOf}
 use Rattle.order_file.specs.OrderLaws as orders
-use Rattle.order_file.specs.OrderRules.{orderIn, read-rules, spread-rules}
+use Rattle.order_file.specs.OrderRules.{read-rules, spread-rules}
 use Rattle.order_file.specs.Ordered.{Ordered, ordered, spreadFrom, SpreadsOrder}
 
 -- Reading and spreading gave x.

@@ -11,7 +11,7 @@ use lib.ListN.{length, take, drop, length-append, length-take, length-drop}
 use lib.Signed.{_≤ℤ_, nonNeg, leZ}
 use Rattle.terms.specs.declared.Bucket.{Bucket}
 use Rattle.terms.specs.declared.Tariff.{Tariff}
-use Rattle.terms.specs.RangeLaws.{BucketRange, TariffRange}
+use Rattle.terms.specs.RangeRules.{BucketRange, TariffRange}
 use Rattle.terms.specs.Records.{Cutting, runLength}
 use Rattle.bucket.specs.Least.{least-first}
 use Rattle.bucket.specs.Laws.{sub-is, start-le, carried-spare}

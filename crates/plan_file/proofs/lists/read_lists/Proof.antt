@@ -8,7 +8,7 @@ use Rattle.terms.specs.Answer.{figures}
 use Rattle.terms.specs.AnswerLaws.{on-refused}
 use Rattle.record_list.specs.Lists.{lists, roomOf}
 use Rattle.plan_file.specs.declared.plans.PlanFigures.{PlanFigures}
-use Rattle.plan_file.specs.Plan.{figuresOf, planIn, planSays}
+use Rattle.plan_file.specs.Plan.{planIn, planSays, recordedFigures}
 use Rattle.plan_file.specs.PlanRules.{IsPlan, is-plan, plan-few, read-refused, read-full, read-loaded}
 use borrow.Author.Needs.{needs}
 use Rattle.plan_file.proofs.lists.read_lists.Statement.{statement}
@@ -18,7 +18,7 @@ use Rattle.plan_file.proofs.lists.read_lists.Tie as tie
 abbrev found : tie.After-struct-known → PlanFigures
 found c = c .before .before .answer .given .0 .0
 
-read : (c : tie.After-struct-known) → figures (found c) ≡ figuresOf (planIn (c .before .before .before .before .before .before .before .before .before .args .bytes .now))
+read : (c : tie.After-struct-known) → figures (found c) ≡ recordedFigures (planIn (c .before .before .before .before .before .before .before .before .before .args .bytes .now))
 read c = sym (ap planSays (c .before .before .answer .given .1)) ∙ c .before .before .before .before .plan-in .ensures
 
 plan : (c : tie.After-struct-known) → IsPlan (c .before .before .before .before .before .before .before .before .before .args .bytes .now) (found c)
