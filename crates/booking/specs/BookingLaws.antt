@@ -11,7 +11,7 @@ use lib.Seq.{drop-drop}
 use Rattle.terms.specs.declared.Tariff.{Tariff}
 use Rattle.terms.specs.Answer.{figures}
 use Rattle.terms.specs.Limits.{demandLimit, traceLimit, costLimit}
-use Rattle.terms.specs.RangeLaws.{TariffRange, PeriodsRange, RecordRange, FreshRange}
+use Rattle.terms.specs.RangeRules.{TariffRange, PeriodsRange, RecordRange, FreshRange}
 use Rattle.terms.specs.Records.{Cutting, Each}
 use Rattle.bucket.specs.Laws.{carried-over, demands-take, demands-drop}
 use Rattle.bucket.specs.Step.{startOf}
@@ -20,9 +20,8 @@ use Rattle.meter.specs.declared.meters.Meter.{Meter}
 use Rattle.meter.specs.Meter.{meterOn}
 use Rattle.meter.specs.MeterRuns.{run-metered}
 use Rattle.series.specs.Cutting.{none, run}
-use Rattle.series.specs.Series.{Carried, trueCost}
+use Rattle.series.specs.Series.{Carried, Cheapest, trueCost}
 use Rattle.series.specs.OutlineLaws.{carried-count, carried-cost}
-use Rattle.series.specs.SeriesLaws.{Cheapest}
 use Rattle.encoding.specs.Number.{valueOf, numberAt, itemsAt}
 use Rattle.encoding.specs.NumberLaws.{Bytes, fit-head, fit-tail, fit-drop}
 use Rattle.order_file.specs.declared.orders.Order.{Order}
@@ -36,7 +35,7 @@ use Rattle.record_list.specs.ListLaws.{noRecord}
 use Rattle.planning.specs.Planning.{Planned}
 use Rattle.planning.specs.PlannedLaws.{IsPlanned, planned-cheapest, carried-sum, carried-some, served-range}
 use Rattle.recording.specs.Recording.{metersOf}
-use Rattle.booking.specs.Claim.{periodsIn, demandsAt, SeriesAnswer}
+use Rattle.booking.specs.Claim.{periodsIn, demandsAt, IsSeriesAnswer}
 
 -- ---- The demands in the file
 
@@ -88,7 +87,7 @@ module _ {space room : ℕ} {bs : List ℕ} {x : Planned} (p : IsPlanned space r
   pub planned-demands : x .demands ≡ demandsAt bs
   planned-demands = sym (spread-demands (p .as-ordered)) ∙ order-demands bs (x .order) (p .as-ordered .read)
 
-  pub planned-series : SeriesAnswer bs (x .cutting)
+  pub planned-series : IsSeriesAnswer bs (x .cutting)
   planned-series =
       subst (λ (ds : List ℕ). Cheapest (tariffIn bs) ds (x .cutting)) planned-demands
       (subst (λ (o : Order). Cheapest (o .tariff) (x .demands) (x .cutting)) (ordered-as (p .as-ordered)) (planned-cheapest p))

@@ -8,12 +8,10 @@ use lib.ListN.{length, take}
 use Rattle.terms.specs.declared.BucketRecord.{BucketRecord}
 use Rattle.terms.specs.Answer.{Answer, figures, refused, onFigures}
 use Rattle.terms.specs.Records.{Cutting, runRate, runDepth, Each}
-use Rattle.series.specs.Series.{Carried, trueCost}
-use Rattle.series.specs.SeriesLaws.{Cheapest}
+use Rattle.series.specs.Series.{Carried, Cheapest, trueCost}
 use Rattle.encoding.specs.Number.{numberAt, itemsAt}
 use Rattle.order_file.specs.declared.orders.Order.{Order}
-use Rattle.order_file.specs.Order.{traceOffset, tariffIn, readOrder}
-use Rattle.order_file.specs.OrderRules.{OrderRules, orderIn}
+use Rattle.order_file.specs.Order.{traceOffset, tariffIn, orderIn, readOrder, OrderRules}
 use Rattle.plan_file.specs.Plan.{planIn, planLength}
 use Rattle.recording.specs.declared.plans.Booking.{Booking}
 use Rattle.recording.specs.Recording.{metersOf}
@@ -40,16 +38,16 @@ costIn bs = trueCost (tariffIn bs)
 
 -- The series answer of document 01: carried, each bucket the single answer for its run, no carried cutting cheaper, and none
 -- as cheap with fewer buckets, or with as many and a longer first run, and so on.
-abbrev pub SeriesAnswer : List ℕ → Cutting → Type 0
-SeriesAnswer bs = Cheapest (tariffIn bs) (demandsAt bs)
+abbrev pub IsSeriesAnswer : List ℕ → Cutting → Type 0
+IsSeriesAnswer bs = Cheapest (tariffIn bs) (demandsAt bs)
 
 -- As long as the work needs: T entries for spreading and planning; k for the list read into, and the file length for the bytes,
 -- where there is a series answer, k being its number of buckets.
 pub record LongEnough (bs : List ℕ) (lent : Lent) : Type 0 where
   pub spreading : periodsIn bs ≤ length (lent .demands)
   pub planning : periodsIn bs ≤ length (lent .plan)
-  pub writing : (xs : Cutting) → SeriesAnswer bs xs → planLength (length xs) ≤ length (lent .bytes)
-  pub reading : (xs : Cutting) → SeriesAnswer bs xs → length xs ≤ length (lent .back)
+  pub writing : (xs : Cutting) → IsSeriesAnswer bs xs → planLength (length xs) ≤ length (lent .bytes)
+  pub reading : (xs : Cutting) → IsSeriesAnswer bs xs → length xs ≤ length (lent .back)
 
 -- ---- What is found afterwards
 
@@ -68,7 +66,7 @@ pub record Kept (bs : List ℕ) (lent after : Lent) (answer : Answer Booking) (s
   pub recorded-list : let xs = s .recording .plan .buckets in take (length xs) (after .back) ≡ xs
   pub recorded-periods : s .recording .plan .periods ≡ periodsIn bs
   -- "the recorded plan is the series answer of document 01"
-  pub is-series-answer : SeriesAnswer bs (s .recording .plan .buckets)
+  pub is-series-answer : IsSeriesAnswer bs (s .recording .plan .buckets)
   -- "and is itself carried in that way,"
   pub carried : CarriedIn bs (s .recording .plan .buckets)
   -- "and the meters discard nothing.": those on the recorded buckets, with the order's p and q, offered the demands in the file

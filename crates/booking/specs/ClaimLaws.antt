@@ -11,16 +11,17 @@ use Rattle.terms.specs.declared.Tariff.{Tariff}
 use Rattle.terms.specs.Answer.{Answer, figures, refused, onFigures, andThen}
 use Rattle.terms.specs.AnswerLaws.{figures-refused, then-figures, then-refused}
 use Rattle.terms.specs.LentLaws.{filled-front, filled-length}
-use Rattle.terms.specs.RangeLaws.{PeriodsRange, periods-ok, tariff-ok}
+use Rattle.terms.specs.RangeRules.{PeriodsRange}
+use Rattle.terms.specs.RangeLaws.{periods-ok, tariff-ok}
 use Rattle.terms.specs.Records.{Cutting, Each}
 use Rattle.series.specs.Cutting.{none, run}
 use Rattle.series.specs.Series.{Carried, seriesOf}
 use Rattle.series.specs.SeriesLaws.{series-none, series-refuses}
 use Rattle.encoding.specs.NumberLaws.{Bytes}
 use Rattle.order_file.specs.declared.orders.Order.{Order}
-use Rattle.order_file.specs.Order.{tariffIn, readOrder, tracePart, spreadOf}
+use Rattle.order_file.specs.Order.{tariffIn, orderIn, readOrder, OrderRules, tracePart, spreadOf}
 use Rattle.order_file.specs.OrderLaws.{demands-count, read-spread}
-use Rattle.order_file.specs.OrderRules.{OrderRules, orderIn, rules-read, read-rules}
+use Rattle.order_file.specs.OrderRules.{rules-read, read-rules}
 use Rattle.order_file.specs.Ordered.{Ordered, ordered}
 use Rattle.order_file.specs.OrderedLaws.{found-ordered}
 use Rattle.plan_file.specs.Plan.{planFile, planIn}
@@ -31,7 +32,7 @@ use Rattle.recording.specs.declared.plans.Booking.{Booking}
 use Rattle.recording.specs.Recording.{recording}
 use Rattle.booking.specs.Booking.{Lent, Steps, plannedFor, planFigures, recordingFor, booked, answerOf, lentAfter}
 use Rattle.booking.specs.BookingLaws.{order-demands, planned-series}
-use Rattle.booking.specs.Claim.{periodsIn, demandsAt, CarriedIn, SeriesAnswer, LongEnough, InsideCaps, Kept, Demand3, Claim}
+use Rattle.booking.specs.Claim.{periodsIn, demandsAt, CarriedIn, IsSeriesAnswer, LongEnough, InsideCaps, Kept, Demand3, Claim}
 use Rattle.booking.specs.CallLaws.{Sizes, sizesOf, writtenIn, recordingIn, bookedIn}
 use Rattle.booking.specs.StepLaws.{fileOf, recordingOf, file-fits, written-read, planned-meters, planned-short, steps-figures}
 
@@ -128,7 +129,7 @@ module _ (bs : List ℕ) (h : Bytes bs) (old after : Lent) (answer : Answer Book
       is : IsPlanned (length (old .demands)) (length (old .plan)) bs x
       is = is-planned (length (old .demands)) (length (old .plan)) bs x planned-is
 
-      is-answer : SeriesAnswer bs xs
+      is-answer : IsSeriesAnswer bs xs
       is-answer = planned-series is
 
       abbrev file : List ℕ

@@ -18,7 +18,7 @@ use Rattle.order_file.specs.OrderRules.{read-rules}
 use Rattle.plan_file.specs.Plan.{planLength}
 use Rattle.recording.specs.declared.plans.Booking.{Booking}
 use Rattle.booking.specs.Booking.{Lent}
-use Rattle.booking.specs.Claim.{periodsIn, SeriesAnswer, LongEnough, Demand3, Claim}
+use Rattle.booking.specs.Claim.{periodsIn, IsSeriesAnswer, LongEnough, Demand3, Claim}
 
 -- What is lent has room for any order.
 pub record Ample (lent : Lent) : Type 0 where
@@ -31,7 +31,7 @@ module _ (bs : List ℕ) (o : Order) (e : readOrder bs ≡ figures o) where
   few : periodsIn bs ≤ traceLimit
   few = read-rules bs o e .0 .periods .few
 
-  count : (xs : Cutting) → SeriesAnswer bs xs → length xs ≤ traceLimit
+  count : (xs : Cutting) → IsSeriesAnswer bs xs → length xs ≤ traceLimit
   count xs a = omega (arith, carried-count (tariffIn bs) (a .carried), length-items (numberAt 2 bs) 2 (periodsIn bs) traceOffset, few)
 
   pub long-enough : (lent : Lent) → Ample lent → LongEnough bs lent

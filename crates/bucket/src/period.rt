@@ -6,7 +6,7 @@ use terms::numbers::lesser;
 ghost use Prim.Native.Nat.{_≤_};
 ghost use mathlib.Core.Path.{_≡_};
 ghost use Rattle.terms.specs.Limits.{depthLimit};
-ghost use Rattle.terms.specs.RangeLaws.{BucketRange, FreshRange};
+ghost use Rattle.terms.specs.RangeRules.{BucketRange, FreshRange};
 ghost use Rattle.bucket.specs.Step.{startOf, periodOf};
 
 // What one period does, in tokens: sent, over (discarded), lost, and held into the next period.

@@ -11,7 +11,7 @@ ghost use Prim.Native.Nat.{_≤_};
 ghost use mathlib.Core.Path.{_≡_};
 ghost use lib.ListN.{length};
 ghost use Rattle.terms.specs.Limits.{depthLimit, rateLimit};
-ghost use Rattle.terms.specs.RangeLaws.{FreshRange, PeriodsRange};
+ghost use Rattle.terms.specs.RangeRules.{FreshRange, PeriodsRange};
 ghost use Rattle.bucket.specs.Trace.{gap, minZ};
 ghost use Rattle.bucket.specs.Trial.{trialFigures, trialOf, trialSays};
 

@@ -10,7 +10,7 @@ ghost use Prim.Native.Nat.{_≤_};
 ghost use mathlib.Core.Path.{_≡_};
 ghost use lib.ListN.{length};
 ghost use Rattle.terms.specs.Limits.{rateLimit};
-ghost use Rattle.terms.specs.RangeLaws.{PeriodsRange};
+ghost use Rattle.terms.specs.RangeRules.{PeriodsRange};
 ghost use Rattle.depth.specs.Depth.{depthOf, depthSays, rateOk};
 ghost use Rattle.depth.specs.Walk.{walkOf};
 

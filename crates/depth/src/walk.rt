@@ -9,7 +9,7 @@ use terms::numbers::greater;
 ghost use Prim.Native.Nat.{_-_, _*_, _≤_};
 ghost use mathlib.Core.Path.{_≡_};
 ghost use Rattle.terms.specs.Limits.{rateLimit, depthLimit, partsLimit, traceLimit};
-ghost use Rattle.terms.specs.RangeLaws.{FactorRange};
+ghost use Rattle.terms.specs.RangeRules.{FactorRange};
 ghost use Rattle.depth.specs.Depth.{depthSays};
 ghost use Rattle.depth.specs.Walk.{started, pushed, ceiling, depthFrom};
 ghost use Rattle.depth.specs.WalkRanges.{WalkRange};

@@ -1,4 +1,4 @@
--- The parts of a file in their places as equations, and that this is equivalent to the test.
+-- That the parts of a file are in their places, as equations, is equivalent to the test.
 -- Assumes nothing.
 use Prim.Native.Nat.{ℕ, _+_}
 use mathlib.Core.Path.{_≡_}
@@ -9,21 +9,15 @@ use lib.Dec.{eqb}
 use lib.ListN.{length}
 use Rattle.terms.specs.Bools.{and-both, and-three, both-and}
 use Rattle.encoding.specs.Number.{numberAt}
-use Rattle.encoding.specs.Header.{placedAs}
+use Rattle.encoding.specs.Header.{Placed, placedAs}
 
 module _ (at first second size : ℕ) (bs : List ℕ) where
-  pub record Placed : Type 0 where
-    pub first-offset : numberAt 4 bs at ≡ first
-    pub second-offset : numberAt 4 bs (at + 4) ≡ second
-    pub file-length : numberAt 4 bs (at + 8) ≡ size
-    pub bytes : length bs ≡ size
-
-  pub placed-range : placedAs at first second size bs ≡ true → Placed
+  pub placed-range : placedAs at first second size bs ≡ true → Placed at first second size bs
   placed-range h =
       let k = and-three (eqb (numberAt 4 bs at) first && eqb (numberAt 4 bs (at + 4)) second) (eqb (numberAt 4 bs (at + 8)) size) (eqb (length bs) size) h in
       let l = and-both (eqb (numberAt 4 bs at) first) (eqb (numberAt 4 bs (at + 4)) second) (k .0) in
       record { first-offset = eqb-true _ _ (l .0); second-offset = eqb-true _ _ (l .1); file-length = eqb-true _ _ (k .1); bytes = eqb-true _ _ (k .2) }
 
-  pub placed-ok : Placed → placedAs at first second size bs ≡ true
+  pub placed-ok : Placed at first second size bs → placedAs at first second size bs ≡ true
   placed-ok p =
       both-and (both-and (both-and (eq-eqb _ _ (p .first-offset)) (eq-eqb _ _ (p .second-offset))) (eq-eqb _ _ (p .file-length))) (eq-eqb _ _ (p .bytes))

@@ -50,8 +50,8 @@ depthIn r bs = andThen (ordered traceLimit bs) (λ x. depthOf (x .order .tariff)
 -- ---- Plans
 
 -- The cost of the cheapest plan for an order (01, "Series"): 1 to 5 as reading gives it, 7 where there is none.
-abbrev pub costIn : List ℕ → Answer ℕ
-costIn bs = onFigures (λ x. trueCost (x .order .tariff) (x .cutting)) (planned traceLimit traceLimit bs)
+abbrev pub plannedCost : List ℕ → Answer ℕ
+plannedCost bs = onFigures (λ x. trueCost (x .order .tariff) (x .cutting)) (planned traceLimit traceLimit bs)
 
 -- The file of that plan in `room` bytes (01, "The two files"): the same, then 6.
 abbrev pub planFileIn : ℕ → List ℕ → Answer (List ℕ)
@@ -60,8 +60,8 @@ planFileIn room bs = andThen (planned traceLimit traceLimit bs) (λ x. planFile 
 -- ---- Meters
 
 -- Tokens held, periods, and the totals of sent, over and lost (01, "The bucket").
-abbrev pub totalsOf : Meter → List ℕ
-totalsOf m = m .held ∷ m .periods ∷ m .sent ∷ m .over ∷ m .lost ∷ []
+abbrev pub meterFigures : Meter → List ℕ
+meterFigures m = m .held ∷ m .periods ∷ m .sent ∷ m .over ∷ m .lost ∷ []
 
 -- A meter opened and offered a list of demands, its figures in a list of `room` entries. 5: the bucket or the factor; 6: fewer
 -- entries than five; 9: more demands than a meter takes.

@@ -48,7 +48,7 @@ use Rattle.sheets.specs.SheetLaws.{sheet-short}
 use Rattle.text.specs.Lines.{singleLine, trialLine}
 use Rattle.text.specs.LineLaws.{trial-short}
 use Rattle.typed_figures.specs.Figures.{tariffFigures, tariffOf}
-use Rattle.exports.specs.Answers.{refusedFrom, coded, orderFrom, depthIn, costIn, planFileIn, meterIn}
+use Rattle.exports.specs.Answers.{refusedFrom, coded, orderFrom, depthIn, plannedCost, planFileIn, meterIn}
 
 -- The figures of an answer are below the refusals.
 abbrev pub Below : Answer ℕ → Type 0
@@ -155,7 +155,7 @@ sheet-below room bs n e =
 
 -- ---- Plans
 
-pub cost-below : (bs : List ℕ) → Below (costIn bs)
+pub cost-below : (bs : List ℕ) → Below (plannedCost bs)
 cost-below bs n e =
     let g = on-figures _ (planned traceLimit traceLimit bs) e in
     let p = is-planned traceLimit traceLimit bs (g .0) (g .1) in

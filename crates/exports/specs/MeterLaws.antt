@@ -15,7 +15,7 @@ use Rattle.terms.specs.Ranges.{freshOk}
 use Rattle.encoding.specs.StoreLaws.{sets-front}
 use Rattle.meter.specs.declared.meters.Meter.{Meter}
 use Rattle.meter.specs.Meter.{meterRun}
-use Rattle.exports.specs.Answers.{coded, meterIn, totalsOf}
+use Rattle.exports.specs.Answers.{coded, meterFigures, meterIn}
 
 module _ (b : Bucket) (f : Factor) (ds old : List ℕ) where
   abbrev metering : Answer Meter
@@ -23,12 +23,12 @@ module _ (b : Bucket) (f : Factor) (ds old : List ℕ) where
 
   -- r is answered, and the totals that held `old` hold `new`.
   abbrev pub MetersCoded : ℕ → List ℕ → Type 0
-  MetersCoded r new = (r ≡ coded (onFigures (λ m. m .periods) metering)) × (new ≡ filled (onFigures totalsOf metering) old)
+  MetersCoded r new = (r ≡ coded (onFigures (λ m. m .periods) metering)) × (new ≡ filled (onFigures meterFigures metering) old)
 
   coded-as : (a : Answer Meter) → metering ≡ a → (r : ℕ) (new : List ℕ)
-      → r ≡ coded (onFigures (λ m. m .periods) a) → new ≡ filled (onFigures totalsOf a) old → MetersCoded r new
+      → r ≡ coded (onFigures (λ m. m .periods) a) → new ≡ filled (onFigures meterFigures a) old → MetersCoded r new
   coded-as a e r new g h =
-      (g ∙ sym (ap (λ (x : Answer Meter). coded (onFigures (λ m. m .periods) x)) e), h ∙ sym (ap (λ (x : Answer Meter). filled (onFigures totalsOf x) old) e))
+      (g ∙ sym (ap (λ (x : Answer Meter). coded (onFigures (λ m. m .periods) x)) e), h ∙ sym (ap (λ (x : Answer Meter). filled (onFigures meterFigures x) old) e))
 
   refused-as : (n : ℕ) → metering ≡ refused n → (r : ℕ) → r ≡ coded (refused n) → MetersCoded r old
   refused-as n e r g = coded-as (refused n) e r old g refl
@@ -50,5 +50,5 @@ module _ (b : Bucket) (f : Factor) (ds old : List ℕ) where
       pub meter-refused : (n : ℕ) → meterRun b f ds ≡ refused n → (r : ℕ) → r ≡ coded (refused n) → MetersCoded r old
       meter-refused n h = refused-as n (run-is ∙ h)
 
-      pub meter-totals : (m : Meter) → meterRun b f ds ≡ figures m → 5 ≤ length old → (new : List ℕ) → new ≡ sets old 0 (totalsOf m) → MetersCoded (m .periods) new
-      meter-totals m h l new s = coded-as (figures m) (run-is ∙ h) (m .periods) new refl (s ∙ sets-front (totalsOf m) old l)
+      pub meter-totals : (m : Meter) → meterRun b f ds ≡ figures m → 5 ≤ length old → (new : List ℕ) → new ≡ sets old 0 (meterFigures m) → MetersCoded (m .periods) new
+      meter-totals m h l new s = coded-as (figures m) (run-is ∙ h) (m .periods) new refl (s ∙ sets-front (meterFigures m) old l)

@@ -18,13 +18,13 @@ use Rattle.series.specs.Series.{trueCost}
 use Rattle.record_list.specs.Lists.{RecordLists, Filled, counted, recordsOf, recorded, roomOf}
 use Rattle.record_list.specs.ListLaws.{Rooms, rooms, lists-hold, lists-kept}
 use Rattle.plan_file.specs.declared.plans.PlanFigures.{PlanFigures}
-use Rattle.plan_file.specs.Plan.{Recorded, bucketsOf, figuresOf, planFile, readPlan}
+use Rattle.plan_file.specs.Plan.{Recorded, bucketsOf, planFile, readPlan, recordedFigures}
 use Rattle.plan_file.specs.CallLaws.{count-fits}
 use Rattle.planning.specs.declared.orders.PlannedOrder.{PlannedOrder}
 use Rattle.planning.specs.Planning.{Planned, planned, plannedFigures}
 use Rattle.planning.specs.CallLaws.{PlansOrder, found-plan, plan-is}
 use Rattle.booking.specs.Booking.{planFigures}
-use Rattle.exports.specs.Answers.{coded, costIn, planFileIn}
+use Rattle.exports.specs.Answers.{coded, planFileIn, plannedCost}
 
 -- ---- An order planned, in as many entries as any order needs
 
@@ -40,7 +40,7 @@ module _ (bs demands : List ℕ) (plan : RecordLists) (demands′ : List ℕ) (p
   unplanned : (n : ℕ) → found ≡ refused n → planned traceLimit traceLimit bs ≡ refused n
   unplanned n f = sized ∙ on-refused plannedFigures (planned (length demands) traceLimit bs) (sym (p .answers) ∙ f)
 
-  pub cost-refused : (n : ℕ) → found ≡ refused n → refused n ≡ costIn bs
+  pub cost-refused : (n : ℕ) → found ≡ refused n → refused n ≡ plannedCost bs
   cost-refused n f = sym (ap (onFigures (λ x. trueCost (x .order .tariff) (x .cutting))) (unplanned n f))
 
   pub file-refused : (n : ℕ) → found ≡ refused n → (old : List ℕ) → Fills (planFileIn (length old) bs) old (refused n) old
@@ -56,7 +56,7 @@ module _ (bs demands : List ℕ) (plan : RecordLists) (demands′ : List ℕ) (p
     planned-is : planned traceLimit traceLimit bs ≡ figures x
     planned-is = sized ∙ found-here .1
 
-    pub cost-found : figures (y .plan .cost) ≡ costIn bs
+    pub cost-found : figures (y .plan .cost) ≡ plannedCost bs
     cost-found =
         ap (λ (z : PlannedOrder). figures (z .plan .cost)) (sym (found-here .2))
         ∙ sym (ap (onFigures (λ x. trueCost (x .order .tariff) (x .cutting))) planned-is)
@@ -90,9 +90,9 @@ module _ (bs : List ℕ) (old new : RecordLists) where
 
 -- What was read with just so much room, into lists of this crate's own.
 module _ (bs : List ℕ) (old : RecordLists) (room : ℕ) (size : room ≡ roomOf (old .runs) (old .rates) (old .depths))
-    (answer : Answer PlanFigures) (says : answer ≡ figuresOf (readPlan room bs)) where
-  read-as : answer ≡ figuresOf (reading bs old old)
-  read-as = says ∙ ap (λ (n : ℕ). figuresOf (readPlan n bs)) size
+    (answer : Answer PlanFigures) (says : answer ≡ recordedFigures (readPlan room bs)) where
+  read-as : answer ≡ recordedFigures (reading bs old old)
+  read-as = says ∙ ap (λ (n : ℕ). recordedFigures (readPlan n bs)) size
 
   pub plan-unread : (n : ℕ) → answer ≡ refused n → (r : ℕ) → r ≡ coded (refused n) → ReadsCoded bs old old r
   plan-unread n f r e =

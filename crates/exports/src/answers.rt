@@ -1,7 +1,7 @@
 // An answer as one number. Public only for this crate's calls.
 use encoding::FillAnswer;
 use terms::Refusal;
-use terms::number_of;
+use terms::refusal_number;
 ghost use mathlib.Core.Path.{_≡_};
 ghost use Rattle.terms.specs.Answer.{refused};
 ghost use Rattle.terms.specs.Refusals.{numberOf};
@@ -15,7 +15,7 @@ pub const REFUSED: u64 = 1_000_000_000_000_000_000;
 pub fn coded_refusal(why: Refusal) -> u64
     ensures { λ r. ⌜ r ≡ coded (refused (numberOf why)) ⌝ }
 {
-    REFUSED + number_of(why) as u64
+    REFUSED + refusal_number(why) as u64
 }
 
 // The number of an answer that fills something lent: how many entries, or the refusal.

@@ -16,7 +16,7 @@ ghost use lib.Seq.{sets};
 ghost use Rattle.terms.specs.Answer.{onFigures};
 ghost use Rattle.terms.specs.Lent.{filled};
 ghost use Rattle.single.specs.Single.{bucketOf};
-ghost use Rattle.exports.specs.Answers.{coded, factorOf, meterIn, totalsOf};
+ghost use Rattle.exports.specs.Answers.{coded, factorOf, meterFigures, meterIn};
 
 // The figures of a meter's record that are handed over.
 const TOTALS: usize = 5;
@@ -34,7 +34,7 @@ pub extern "C" fn metqoraz_meter(
     totals: &mut [u64],
 ) -> u64
     ensures { λ r. ⌜ r ≡ coded (onFigures (λ m. m .periods) (meterIn (length (now (totals .entry))) (bucketOf rate depth) (factorOf p q) (now (offers .entry)))) ⌝ }
-    ensures { λ _. ⌜ now (totals .exit) ≡ filled (onFigures totalsOf (meterIn (length (now (totals .entry))) (bucketOf rate depth) (factorOf p q) (now (offers .entry)))) (now (totals .entry)) ⌝ }
+    ensures { λ _. ⌜ now (totals .exit) ≡ filled (onFigures meterFigures (meterIn (length (now (totals .entry))) (bucketOf rate depth) (factorOf p q) (now (offers .entry)))) (now (totals .entry)) ⌝ }
 {
     let bucket = Bucket {
         rate: Rate(rate),
@@ -58,7 +58,7 @@ pub extern "C" fn metqoraz_meter(
 // Stores the figures at the front of the totals.
 fn put_totals(meter: Meter, totals: &mut [u64])
     requires { ⌜ 5 ≤ length (now totals) ⌝ }
-    ensures { λ _. ⌜ now (totals .exit) ≡ sets (now (totals .entry)) 0 (totalsOf meter) ⌝ }
+    ensures { λ _. ⌜ now (totals .exit) ≡ sets (now (totals .entry)) 0 (meterFigures meter) ⌝ }
 {
     totals[0] = meter.held as u64;
     totals[1] = meter.periods as u64;

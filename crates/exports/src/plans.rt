@@ -17,12 +17,12 @@ ghost use Rattle.terms.specs.Answer.{onFigures};
 ghost use Rattle.terms.specs.Lent.{filled};
 ghost use Rattle.record_list.specs.Lists.{Filled, lists, roomOf};
 ghost use Rattle.plan_file.specs.Plan.{bucketsOf, readPlan};
-ghost use Rattle.exports.specs.Answers.{coded, costIn, planFileIn};
+ghost use Rattle.exports.specs.Answers.{coded, planFileIn, plannedCost};
 
 // The cost of the cheapest plan for an order; or refusal 1 to 5 of the order or 7.
 #[no_mangle]
 pub extern "C" fn metqoraz_series(order: &[u8]) -> u64
-    ensures { λ r. ⌜ r ≡ coded (costIn (now (order .entry))) ⌝ }
+    ensures { λ r. ⌜ r ≡ coded (plannedCost (now (order .entry))) ⌝ }
 {
     let mut demands = [0u16; TRACE_LIMIT];
     let mut runs = [0u32; TRACE_LIMIT];

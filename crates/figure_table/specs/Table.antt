@@ -1,33 +1,25 @@
--- The lettered figures of document 01, "Figures to hold the definitions to": one table, and one test over it.
+-- The lettered figures of document 01, "Figures to hold the definitions to", as one table. That it holds is proved of
+-- the definitions (`TableLaws`).
 -- Assumes nothing.
 use Prim.Native.Nat.{ℕ}
-use mathlib.Core.Path.{_≡_, refl}
-use mathlib.Core.Bool.{true}
 use mathlib.Core.List.{List, [], _∷_, map}
 use lib.IntN.{ℤ, pos, negsuc}
 use lib.ListN.{length}
 use Rattle.terms.specs.declared.Factor.{Factor}
 use Rattle.terms.specs.declared.Tariff.{Tariff}
 use Rattle.terms.specs.Answer.{Answer, figures, refused, onFigures}
-use Rattle.bucket.specs.declared.trials.TrialFigures.{TrialFigures}
-use Rattle.bucket.specs.Step.{startOf}
-use Rattle.bucket.specs.Trace.{sumOf, carriesFrom, gaps, leastOf, spareFrom}
-use Rattle.bucket.specs.Trial.{trialFigures, trialOf}
-use Rattle.meter.specs.declared.meters.Meter.{Meter}
-use Rattle.meter.specs.Meter.{meterOk, openOf, offerOf, afterOffers}
-use Rattle.depth.specs.Depth.{firstFrom, depthOf}
-use Rattle.single.specs.declared.costs.Priced.{Priced}
-use Rattle.single.specs.Cost.{costOf}
-use Rattle.single.specs.Preference.{smaller, preferred}
-use Rattle.single.specs.Single.{bucketOf, atRate, bestOf, singleOf}
-use Rattle.series.specs.Cutting.{longer, wins, bestFirst, bests}
-use Rattle.terms.specs.Records.{total}
-use Rattle.series.specs.Series.{trueCost, seriesOf}
 use Rattle.terms.specs.Records.{Cutting}
-use Rattle.text.specs.Numeral.{digits, numeralIn}
+use Rattle.bucket.specs.declared.trials.TrialFigures.{TrialFigures}
+use Rattle.bucket.specs.Trial.{trialOf}
+use Rattle.meter.specs.declared.meters.Meter.{Meter}
+use Rattle.meter.specs.Meter.{openOf, afterOffers}
+use Rattle.depth.specs.Depth.{depthOf}
+use Rattle.single.specs.declared.costs.Priced.{Priced}
+use Rattle.single.specs.Single.{bucketOf, atRate, singleOf}
+use Rattle.series.specs.Series.{trueCost, seriesOf}
 use Rattle.text.specs.Megabits.{megabits}
-use Rattle.sheets.specs.Sheet.{runLines, sheetText}
-use Rattle.figure_table.specs.Rows.{Row, allRight, Hold, all-hold}
+use Rattle.sheets.specs.Sheet.{sheetText}
+use Rattle.figure_table.specs.Rows.{Row}
 
 -- the factor of the printed case
 half : Factor
@@ -105,7 +97,8 @@ printedSheet : Cutting → List ℤ
 printedSheet xs = map pos (sheetText (record { order = record { periods = 3; tariff = printed }; demands = case; cutting = xs }))
 
 -- The rows of the series stand last: they take longest, and the test ends at the first row that is wrong.
-pub table : List Row
+unfoldable pub table : List Row
+unfolding half tariff printed withFee capped uneven empty case depthRow singleRow costRow bucketRows seriesRow seriesAt trialRow meterRow textRow printedSheet
 table =
     -- A: 4,8,2 at rates 4, 5, 6: depths 8, 4, 2
     record { given = onFigures depthRow (depthOf printed 4 case); paper = figures (pos 8 ∷ []) }
@@ -165,10 +158,3 @@ table =
           );
     }
     ∷ []
-
-table-right : allRight table ≡ true
-unfolding table half tariff printed withFee capped uneven empty case depthRow singleRow costRow bucketRows seriesRow seriesAt trialRow meterRow textRow printedSheet allRight startOf sumOf carriesFrom gaps leastOf spareFrom trialFigures meterOk offerOf afterOffers firstFrom depthOf costOf smaller preferred bestOf singleOf total longer wins bestFirst bests seriesOf digits numeralIn runLines
-table-right = refl
-
-pub figures-hold : Hold table
-figures-hold = all-hold table table-right

@@ -17,7 +17,7 @@ use Rattle.terms.specs.declared.Tariff.{Tariff}
 use Rattle.terms.specs.Answer.{figures}
 use Rattle.terms.specs.Bools.{true-false}
 use Rattle.terms.specs.Limits.{traceLimit}
-use Rattle.terms.specs.RangeLaws.{TariffRange}
+use Rattle.terms.specs.RangeRules.{TariffRange}
 use Rattle.bucket.specs.Step.{startOf}
 use Rattle.depth.specs.Depth.{tariffDepth}
 use Rattle.depth.specs.DepthLaws.{depth-within, depth-carries, depth-least}

@@ -12,7 +12,7 @@ ghost use Prim.Native.Nat.{_-_, _≤_, max};
 ghost use mathlib.Core.Path.{_≡_};
 ghost use Rattle.terms.specs.Answer.{figures};
 ghost use Rattle.terms.specs.Limits.{feeLimit, traceLimit};
-ghost use Rattle.terms.specs.RangeLaws.{TariffRange};
+ghost use Rattle.terms.specs.RangeRules.{TariffRange};
 ghost use Rattle.depth.specs.Depth.{depthSays};
 ghost use Rattle.depth.specs.Walk.{started};
 ghost use Rattle.depth.specs.WalkRanges.{WalkRange};

@@ -23,8 +23,8 @@ use Rattle.meter.specs.declared.meters.OfferAnswer.the-variants as offer
 use Rattle.meter.specs.declared.meters.Offered.{Offered}
 
 -- Tokens held, periods and totals within their limits.
-abbrev pub countsOk : Meter → Bool
-countsOk m =
+abbrev pub totalsOk : Meter → Bool
+totalsOk m =
     leb (m .held) (m .bucket .depth .0) && leb (m .periods) meterLimit && leb (m .sent) totalLimit && leb (m .over) totalLimit
     && leb (m .lost) totalLimit && leb (m .over) (demandLimit * m .periods)
 
@@ -35,7 +35,7 @@ balanced m =
 
 -- A record that breaks none of the rules of refusal 8.
 unfoldable pub meterOk : Meter → Bool
-meterOk m = freshOk (m .bucket) (m .factor) && countsOk m && balanced m
+meterOk m = freshOk (m .bucket) (m .factor) && totalsOk m && balanced m
 
 -- The record of a meter that has taken no offer: the bucket is fresh.
 abbrev pub freshMeter : Bucket → Factor → Meter

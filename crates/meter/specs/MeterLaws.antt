@@ -14,11 +14,12 @@ use Rattle.terms.specs.Answer.{figures, refused, weigh}
 use Rattle.terms.specs.AnswerLaws.{figures-refused, same-figures, same-refusal}
 use Rattle.terms.specs.Bools.{and-three, and-six, both-and}
 use Rattle.terms.specs.Ranges.{freshOk}
-use Rattle.terms.specs.RangeLaws.{FreshRange, fresh-range, fresh-ok}
+use Rattle.terms.specs.RangeRules.{FreshRange}
+use Rattle.terms.specs.RangeLaws.{fresh-range, fresh-ok}
 use Rattle.bucket.specs.Step.{startOf, sent, over, held, lost, periodOf}
 use Rattle.bucket.specs.Laws.{start-le}
 use Rattle.meter.specs.declared.meters.Meter.{Meter}
-use Rattle.meter.specs.Meter.{countsOk, balanced, meterOk, freshMeter, openOf, offerOf, recordAfter}
+use Rattle.meter.specs.Meter.{totalsOk, balanced, meterOk, freshMeter, openOf, offerOf, recordAfter}
 
 pub record CountsRange (m : Meter) : Type 0 where
   pub holds : m .held ≤ m .bucket .depth .0
@@ -28,7 +29,7 @@ pub record CountsRange (m : Meter) : Type 0 where
   pub losts : m .lost ≤ totalLimit
   pub paced : m .over ≤ demandLimit * m .periods
 
-pub counts-range : (m : Meter) → countsOk m ≡ true → CountsRange m
+pub counts-range : (m : Meter) → totalsOk m ≡ true → CountsRange m
 counts-range m h =
     let s = leb (m .sent) totalLimit in
     let o = leb (m .over) totalLimit in
@@ -36,7 +37,7 @@ counts-range m h =
     let k = and-six (leb (m .held) (m .bucket .depth .0)) (leb (m .periods) meterLimit) s o l (leb (m .over) (demandLimit * m .periods)) h in
     omega (arith, leb-true)
 
-pub counts-ok : (m : Meter) → CountsRange m → countsOk m ≡ true
+pub counts-ok : (m : Meter) → CountsRange m → totalsOk m ≡ true
 counts-ok m k =
     both-and (both-and (both-and (both-and (both-and (le-leb _ _ (k .holds)) (le-leb _ _ (k .times))) (le-leb _ _ (k .sents))) (le-leb _ _ (k .overs))) (le-leb _ _ (k .losts))) (le-leb _ _ (k .paced))
 
@@ -49,7 +50,7 @@ pub record Sound (m : Meter) : Type 0 where
 pub meter-sound : (m : Meter) → meterOk m ≡ true → Sound m
 unfolding meterOk
 meter-sound m h =
-    let k = and-three (freshOk (m .bucket) (m .factor)) (countsOk m) (balanced m) h in
+    let k = and-three (freshOk (m .bucket) (m .factor)) (totalsOk m) (balanced m) h in
     record { fresh = fresh-range _ _ (k .0); counts = counts-range m (k .1); balance = eqb-true _ _ (k .2) }
 
 pub sound-meter : (m : Meter) → Sound m → meterOk m ≡ true

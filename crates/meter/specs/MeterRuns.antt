@@ -16,7 +16,8 @@ use Rattle.terms.specs.declared.Factor.{Factor}
 use Rattle.terms.specs.Limits.{meterLimit}
 use Rattle.terms.specs.Answer.{figures, refused, weigh, andThen}
 use Rattle.terms.specs.AnswerLaws.{same-figures, then-found}
-use Rattle.terms.specs.RangeLaws.{FreshRange, fresh-ok}
+use Rattle.terms.specs.RangeRules.{FreshRange}
+use Rattle.terms.specs.RangeLaws.{fresh-ok}
 use Rattle.bucket.specs.Step.{startOf, sent, over, held, lost, periodOf}
 use Rattle.bucket.specs.Trace.{Demands, heldAfter, sumOf, sentAll, overAll, lostAll, carries}
 use Rattle.bucket.specs.Laws.{demands-tail, start-le, conservation, carried-over, over-carried}

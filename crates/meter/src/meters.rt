@@ -10,9 +10,9 @@ use terms::limits::DEMAND_LIMIT;
 use terms::limits::METER_LIMIT;
 use terms::limits::TOTAL_LIMIT;
 ghost use mathlib.Core.Path.{_≡_};
-ghost use Rattle.terms.specs.RangeLaws.{FreshRange};
+ghost use Rattle.terms.specs.RangeRules.{FreshRange};
 ghost use Rattle.terms.specs.Answer.{figures};
-ghost use Rattle.meter.specs.Meter.{countsOk, balanced, meterOk, openOf, openSays, recordAfter, Answered};
+ghost use Rattle.meter.specs.Meter.{totalsOk, balanced, meterOk, openOf, openSays, recordAfter, Answered};
 ghost use Rattle.meter.specs.MeterLaws.{CountsRange};
 
 // A meter's record: the bucket and the factor it was set up with, the tokens it holds, the periods
@@ -129,7 +129,7 @@ fn record_in_order(m: Meter) -> bool
 
 // Whether tokens, periods and totals are within their limits.
 fn counts_in_range(m: Meter) -> bool
-    ensures { λ r. ⌜ r ≡ countsOk m ⌝ }
+    ensures { λ r. ⌜ r ≡ totalsOk m ⌝ }
 {
     (m.held <= m.bucket.depth.0)
         & (m.periods <= METER_LIMIT)

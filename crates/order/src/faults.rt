@@ -5,7 +5,7 @@ use order_text::Cause;
 use order_text::Fault;
 use order_text::refusal_of;
 use terms::Refusal;
-use terms::number_of;
+use terms::refusal_number;
 use typed_figures::limit_of;
 
 pub fn say(fault: Fault) {
@@ -23,7 +23,7 @@ pub fn say(fault: Fault) {
         Cause::Few => words(b"the text ends where it is due"),
     }
     words(b" (refused ");
-    number(number_of(refusal_of(cause)) as u64);
+    number(refusal_number(refusal_of(cause)) as u64);
     words(b")\n");
 }
 
@@ -33,7 +33,7 @@ pub fn long_text() {
 
 pub fn refused(refusal: Refusal) {
     words(b"order: refused ");
-    number(number_of(refusal) as u64);
+    number(refusal_number(refusal) as u64);
     words(b"\n");
 }
 

@@ -1,6 +1,6 @@
 -- The order file, written and read (01, "The two files"; refusals 1 to 6).
 -- Assumes nothing.
-use Prim.Native.Nat.{ℕ, _+_, _*_, _/_, _%_}
+use Prim.Native.Nat.{ℕ, _+_, _*_, _/_, _%_, _≤_}
 use mathlib.Core.Path.{_≡_}
 use mathlib.Core.Bool.{Bool, _&&_}
 use mathlib.Core.List.{List, [], _∷_, _++_}
@@ -11,11 +11,12 @@ use Rattle.terms.specs.Answer.{Answer, figures, refused, weigh}
 use Rattle.terms.specs.Refusals.{numberOf}
 use Rattle.terms.specs.Limits.{traceLimit}
 use Rattle.terms.specs.Ranges.{periodsOk, tariffOk}
+use Rattle.terms.specs.RangeRules.{PeriodsRange, TariffRange}
 use Rattle.order_file.specs.declared.orders.Order.{Order}
 use Rattle.order_file.specs.declared.orders.OrderAnswer.{OrderAnswer}
 use Rattle.order_file.specs.declared.orders.OrderAnswer.the-variants.{Read, Refused}
 use Rattle.encoding.specs.Number.{bytesOf, numberAt, bytesOfAll, itemsAt}
-use Rattle.encoding.specs.Header.{placedAs}
+use Rattle.encoding.specs.Header.{Placed, placedAs}
 
 -- kind = 1
 abbrev pub orderKind : ℕ
@@ -61,6 +62,10 @@ tariffIn bs =
       «depth_cap» = record { 0 = numberAt 4 bs 44 };
     }
 
+-- T and the tariff where the bytes have them.
+abbrev pub orderIn : List ℕ → Order
+orderIn bs = record { periods = numberAt 4 bs 4; tariff = tariffIn bs }
+
 -- 1: under 20 bytes; 2: the kind; 3: T; 4: offsets and lengths; 5: the tariff.
 unfoldable pub readOrder : List ℕ → Answer Order
 readOrder bs =
@@ -70,7 +75,16 @@ readOrder bs =
     (weigh (periodsOk T) 3
     (weigh (placedAs 8 tariffOffset traceOffset (orderLength T) bs) 4
     (weigh (tariffOk (tariffIn bs)) 5
-    (figures (record { periods = T; tariff = tariffIn bs }))))))
+    (figures (orderIn bs))))))
+
+-- The rules of the format as document 01 lists them. An order is read exactly when it keeps them (`rules-read`,
+-- `read-rules`).
+pub record OrderRules (bs : List ℕ) : Type 0 where
+  pub header : tariffOffset ≤ length bs
+  pub kind : numberAt 4 bs 0 ≡ orderKind
+  pub periods : PeriodsRange (numberAt 4 bs 4)
+  pub placed : Placed 8 tariffOffset traceOffset (orderLength (numberAt 4 bs 4)) bs
+  pub tariff : TariffRange (tariffIn bs)
 
 -- Each case of the answer in document 01's values and numbers.
 abbrev pub orderSays : OrderAnswer → Answer Order

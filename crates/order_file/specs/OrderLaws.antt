@@ -18,13 +18,14 @@ use Rattle.terms.specs.Bools.{both-and}
 use Rattle.terms.specs.Limits.{traceLimit}
 use Rattle.terms.specs.Ranges.{periodsOk, tariffOk}
 use Rattle.terms.specs.Records.{Each}
-use Rattle.terms.specs.RangeLaws.{PeriodsRange, TariffRange, periods-range, periods-ok, tariff-range, tariff-ok}
+use Rattle.terms.specs.RangeRules.{PeriodsRange, TariffRange}
+use Rattle.terms.specs.RangeLaws.{periods-range, periods-ok, tariff-range, tariff-ok}
 use Rattle.order_file.specs.declared.orders.Order.{Order}
 use Rattle.encoding.specs.Number.{bytesOf, numberAt, bytesOfAll, itemsAt}
 use Rattle.encoding.specs.NumberLaws.{Within, Fit, Bytes, fit-drop, fit-each, length-bytes, length-all, numbers-written, numbers-read}
-use Rattle.encoding.specs.HeaderLaws.{Placed}
-use Rattle.order_file.specs.Order.{orderLength, orderWords, orderBytes, tariffOffset, traceOffset, tariffIn, readOrder, tracePart, partOk, demandsIn, spreadOf, writeOrder, VeryOrder}
-use Rattle.order_file.specs.OrderRules.{OrderRules, rules-read, read-rules, part-read, spread-figures, length-header, length-order, length-demands, write-figures}
+use Rattle.encoding.specs.Header.{Placed}
+use Rattle.order_file.specs.Order.{orderLength, orderWords, orderBytes, tariffOffset, traceOffset, tariffIn, readOrder, OrderRules, tracePart, partOk, demandsIn, spreadOf, writeOrder, VeryOrder}
+use Rattle.order_file.specs.OrderRules.{rules-read, read-rules, part-read, spread-figures, length-header, length-order, length-demands, write-figures}
 
 -- ---- The words of an order
 

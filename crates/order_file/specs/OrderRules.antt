@@ -12,13 +12,13 @@ use Rattle.terms.specs.declared.Tariff.{Tariff}
 use Rattle.terms.specs.Answer.{Answer, figures, refused}
 use Rattle.terms.specs.AnswerLaws.{same-figures, weigh-figures}
 use Rattle.terms.specs.Ranges.{periodsOk, tariffOk}
-use Rattle.terms.specs.RangeLaws.{PeriodsRange, TariffRange, periods-range, periods-ok, tariff-range, tariff-ok}
+use Rattle.terms.specs.RangeLaws.{periods-range, periods-ok, tariff-range, tariff-ok}
 use Rattle.order_file.specs.declared.orders.Order.{Order}
 use Rattle.encoding.specs.Number.{bytesOf, numberAt, bytesOfAll}
 use Rattle.encoding.specs.Header.{placedAs}
-use Rattle.encoding.specs.HeaderLaws.{Placed, placed-range, placed-ok}
+use Rattle.encoding.specs.HeaderLaws.{placed-range, placed-ok}
 use Rattle.encoding.specs.NumberLaws.{length-items, length-bytes, length-all}
-use Rattle.order_file.specs.Order.{orderKind, tariffOffset, traceOffset, orderLength, tariffIn, readOrder, partOf, tracePart, partOk, demandsIn, spreadOf, orderWords, orderBytes, writeOrder}
+use Rattle.order_file.specs.Order.{orderKind, tariffOffset, traceOffset, orderLength, tariffIn, orderIn, readOrder, OrderRules, partOf, tracePart, partOk, demandsIn, spreadOf, orderWords, orderBytes, writeOrder}
 
 -- ---- Reading, rule by rule
 
@@ -27,10 +27,6 @@ abbrev pub orderPlaced : List ℕ → Bool
 orderPlaced bs = placedAs 8 tariffOffset traceOffset (orderLength (numberAt 4 bs 4)) bs
 
 module _ (bs : List ℕ) where
-  -- T and the tariff where the bytes have them.
-  abbrev pub orderIn : Order
-  orderIn = record { periods = numberAt 4 bs 4; tariff = tariffIn bs }
-
   pub order-short : leb tariffOffset (length bs) ≡ false → readOrder bs ≡ refused 1
   unfolding readOrder
   order-short h = rw h
@@ -55,17 +51,9 @@ module _ (bs : List ℕ) where
           unfolding readOrder
           order-figure h = rw (long, kind, counts, places, h)
 
-          pub order-figures : tariffOk (tariffIn bs) ≡ true → readOrder bs ≡ figures orderIn
+          pub order-figures : tariffOk (tariffIn bs) ≡ true → readOrder bs ≡ figures (orderIn bs)
           unfolding readOrder
           order-figures h = rw (long, kind, counts, places, h) refl
-
--- The rules of the format as document 01 lists them.
-pub record OrderRules (bs : List ℕ) : Type 0 where
-  pub header : tariffOffset ≤ length bs
-  pub kind : numberAt 4 bs 0 ≡ orderKind
-  pub periods : PeriodsRange (numberAt 4 bs 4)
-  pub placed : Placed 8 tariffOffset traceOffset (orderLength (numberAt 4 bs 4)) bs
-  pub tariff : TariffRange (tariffIn bs)
 
 -- Every order that breaks no rule of its format is read.
 pub rules-read : (bs : List ℕ) → OrderRules bs → readOrder bs ≡ figures (orderIn bs)

@@ -15,11 +15,11 @@ use Rattle.terms.specs.Bools.{leb-min}
 use Rattle.terms.specs.Lent.{filled}
 use Rattle.terms.specs.Limits.{traceLimit}
 use Rattle.terms.specs.LentLaws.{filled-front}
-use Rattle.terms.specs.RangeLaws.{TariffRange, PeriodsRange}
+use Rattle.terms.specs.RangeRules.{TariffRange, PeriodsRange}
 use Rattle.order_file.specs.declared.orders.Order.{Order}
-use Rattle.order_file.specs.Order.{readOrder, tracePart, partOk, demandsIn, spreadOf}
+use Rattle.order_file.specs.Order.{orderIn, readOrder, tracePart, partOk, demandsIn, spreadOf}
 use Rattle.order_file.specs.OrderLaws as orders
-use Rattle.order_file.specs.OrderRules.{orderIn, read-rules, length-demands, spread-full, spread-rules}
+use Rattle.order_file.specs.OrderRules.{read-rules, length-demands, spread-full, spread-rules}
 use Rattle.order_file.specs.Ordered.{Ordered, ordered, spreadFrom, SpreadsOrder}
 
 -- Reading and spreading gave x.

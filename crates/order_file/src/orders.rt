@@ -20,7 +20,7 @@ ghost use lib.ListN.{length};
 ghost use lib.Seq.{sets};
 ghost use Rattle.terms.specs.Answer.{onFigures};
 ghost use Rattle.terms.specs.Lent.{filled};
-ghost use Rattle.terms.specs.RangeLaws.{PeriodsRange};
+ghost use Rattle.terms.specs.RangeRules.{PeriodsRange};
 ghost use Rattle.encoding.specs.Fill.{fillSays};
 ghost use Rattle.encoding.specs.Number.{bytesOf, bytesOfAll};
 ghost use Rattle.order_file.specs.Order.{orderSays, orderWords, readOrder, tariffIn, tracePart, VeryOrder, writeOrder};

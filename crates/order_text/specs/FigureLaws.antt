@@ -14,7 +14,8 @@ use Rattle.terms.specs.Answer.{figures, refused}
 use Rattle.terms.specs.Bools.{true-false}
 use Rattle.terms.specs.Limits.{demandLimit}
 use Rattle.terms.specs.Ranges.{factorOk}
-use Rattle.terms.specs.RangeLaws.{PeriodsRange, TariffRange, factor-range, periods-ok, tariff-ok}
+use Rattle.terms.specs.RangeRules.{PeriodsRange, TariffRange}
+use Rattle.terms.specs.RangeLaws.{factor-range, periods-ok, tariff-ok}
 use Rattle.encoding.specs.NumberLaws.{Fit}
 use Rattle.order_file.specs.Order.{orderLength, orderBytes}
 use Rattle.order_file.specs.OrderRules.{write-room, write-figures}

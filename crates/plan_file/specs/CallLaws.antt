@@ -19,14 +19,14 @@ use Rattle.encoding.specs.NumberLaws.{length-items}
 use Rattle.record_list.specs.ListLaws.{counted-on, lists-hold}
 use Rattle.record_list.specs.Lists.{RecordLists, Filled, recordsOf, counted}
 use Rattle.plan_file.specs.declared.plans.PlanFigures.{PlanFigures}
-use Rattle.plan_file.specs.Plan.{Recorded, bucketsOffset, bucketsOf, countsOk, figuresOf, fitting, planFile, planIn, readPlan}
+use Rattle.plan_file.specs.Plan.{Recorded, bucketsOffset, bucketsOf, countsOk, fitting, planFile, planIn, readPlan, recordedFigures}
 use Rattle.plan_file.specs.PlanRules.{counts-range, read-rules, write-periods}
 
 module _ (room : ℕ) (bs : List ℕ) where
   abbrev read : Answer Recorded
   read = readPlan room bs
 
-  pub count-is : (r : Answer PlanFigures) (n : ℕ) → r ≡ figuresOf read → n ≡ counted (λ x. x .buckets) r → n ≡ counted length (bucketsOf read)
+  pub count-is : (r : Answer PlanFigures) (n : ℕ) → r ≡ recordedFigures read → n ≡ counted (λ x. x .buckets) r → n ≡ counted length (bucketsOf read)
   count-is r n e f = f ∙ ap (counted (λ x. x .buckets)) e ∙ counted-on (λ x. x .buckets) _ read ∙ sym (counted-on length _ read)
 
   -- The records fit the lent list and the lists that hold their figures.

@@ -104,8 +104,8 @@ abbrev pub readPlan : ℕ → List ℕ → Answer Recorded
 readPlan room bs = andThen (planIn bs) (fitting room)
 
 -- The figures that are answered, and the records that fill the list.
-abbrev pub figuresOf : Answer Recorded → Answer PlanFigures
-figuresOf = onFigures (λ x. record { periods = x .periods; buckets = length (x .buckets); cost = x .cost })
+abbrev pub recordedFigures : Answer Recorded → Answer PlanFigures
+recordedFigures = onFigures (λ x. record { periods = x .periods; buckets = length (x .buckets); cost = x .cost })
 
 abbrev pub bucketsOf : Answer Recorded → Answer Cutting
 bucketsOf = onFigures (λ x. x .buckets)

@@ -16,7 +16,7 @@ use Rattle.terms.specs.Records.{Cutting, Each, recordOf, runLength, runRate, ru
 use Rattle.plan_file.specs.declared.plans.PlanFigures.{PlanFigures}
 use Rattle.encoding.specs.Number.{bytesOf, numberAt, bytesOfAll, itemsAt}
 use Rattle.encoding.specs.NumberLaws.{Within, Bytes, numbers-written, numbers-read, each-at, length-bytes, length-all, length-items, number-written, number-read, items-written, items-read}
-use Rattle.encoding.specs.HeaderLaws.{Placed}
+use Rattle.encoding.specs.Header.{Placed}
 use Rattle.record_list.specs.ListLaws.{noRecord}
 use Rattle.plan_file.specs.RecordLaws.{RecordsRange, records-ok}
 use Rattle.plan_file.specs.Plan.{Recorded, costOffset, bucketsOffset, planLength, planWords, planBytes, recordBytes, recordAt, recordsIn, planIn, readPlan, planFile, writePlan, VeryPlan}

@@ -16,17 +16,18 @@ use Rattle.terms.specs.Bools.{and-three, both-and}
 use Rattle.terms.specs.Limits.{costLimit, traceLimit}
 use Rattle.terms.specs.Ranges.{periodsOk}
 use Rattle.terms.specs.Records.{Cutting, runLength, runRate, runDepth}
-use Rattle.terms.specs.RangeLaws.{PeriodsRange, periods-range, periods-ok}
+use Rattle.terms.specs.RangeRules.{PeriodsRange}
+use Rattle.terms.specs.RangeLaws.{periods-range, periods-ok}
 use Rattle.plan_file.specs.declared.plans.PlanFigures.{PlanFigures}
 use Rattle.encoding.specs.Number.{bytesOf, numberAt, bytesOfAll}
 use Rattle.encoding.specs.NumberLaws.{length-items, length-bytes, length-all}
-use Rattle.encoding.specs.Header.{placedAs}
-use Rattle.encoding.specs.HeaderLaws.{Placed, placed-range, placed-ok}
+use Rattle.encoding.specs.Header.{Placed, placedAs}
+use Rattle.encoding.specs.HeaderLaws.{placed-range, placed-ok}
 use Rattle.encoding.specs.StoreLaws.{sets-front}
 use Rattle.record_list.specs.ListLaws.{lists-kept, rooms}
 use Rattle.record_list.specs.Lists.{RecordLists, Filled, recorded, roomOf}
 use Rattle.plan_file.specs.RecordLaws.{RecordsRange, records-range, records-ok}
-use Rattle.plan_file.specs.Plan.{Recorded, planKind, costOffset, bucketsOffset, planLength, planBytes, countsOk, recordsOk, recordsIn, planIn, fitting, readPlan, figuresOf, bucketsOf, planWords, recordBytes, planFile}
+use Rattle.plan_file.specs.Plan.{Recorded, planKind, costOffset, bucketsOffset, planLength, planBytes, countsOk, recordsOk, recordsIn, planIn, fitting, readPlan, recordedFigures, bucketsOf, planWords, recordBytes, planFile}
 
 -- T and k in their ranges, as orders of numbers.
 pub record CountsRange (T k : ℕ) : Type 0 where
@@ -130,7 +131,7 @@ read-rules bs x e =
 
 -- The figures that are answered, from the numbers that are read.
 pub figures-are : (bs : List ℕ) (T k cost : ℕ) → T ≡ numberAt 4 bs 4 → k ≡ numberAt 4 bs 8 → cost ≡ numberAt 8 bs costOffset
-    → figures (record { periods = T; buckets = k; cost = cost }) ≡ figuresOf (figures (recordedIn bs))
+    → figures (record { periods = T; buckets = k; cost = cost }) ≡ recordedFigures (figures (recordedIn bs))
 figures-are bs T k cost e f g =
     let l : k ≡ length (bucketsIn bs) = f ∙ sym (length-items _ 12 (numberAt 4 bs 8) bucketsOffset) in
     rw (e, g) (ap (λ (n : ℕ). figures (record { periods = numberAt 4 bs 4; buckets = n; cost = numberAt 8 bs costOffset })) l)
@@ -143,7 +144,7 @@ pub record IsPlan (bs : List ℕ) (y : PlanFigures) : Type 0 where
   pub is-count : numberAt 4 bs 8 ≡ y .buckets
   pub bytes : length bs ≡ planLength (y .buckets)
 
-pub is-plan : (bs : List ℕ) (y : PlanFigures) → figures y ≡ figuresOf (planIn bs) → IsPlan bs y
+pub is-plan : (bs : List ℕ) (y : PlanFigures) → figures y ≡ recordedFigures (planIn bs) → IsPlan bs y
 is-plan bs y e =
     let f = on-figures (λ x. record { periods = x .periods; buckets = length (x .buckets); cost = x .cost }) (planIn bs) (sym e) in
     let r = read-rules bs (f .0) (f .1) in
@@ -152,7 +153,7 @@ is-plan bs y e =
     record { is-read = f .1 ∙ ap figures (r .1); is-count = n; bytes = r .0 .placed .bytes ∙ ap planLength n }
 
 -- It has no more buckets than the longest trace has periods.
-pub plan-few : (bs : List ℕ) (y : PlanFigures) → figures y ≡ figuresOf (planIn bs) → y .buckets ≤ traceLimit
+pub plan-few : (bs : List ℕ) (y : PlanFigures) → figures y ≡ recordedFigures (planIn bs) → y .buckets ≤ traceLimit
 plan-few bs y e =
     let f = on-figures (λ x. record { periods = x .periods; buckets = length (x .buckets); cost = x .cost }) (planIn bs) (sym e) in
     let c = read-rules bs (f .0) (f .1) .0 .counts in
@@ -171,12 +172,12 @@ read-fits room bs x e l = sym (then-figures (planIn bs) (fitting room) e) ∙ ap
 module _ (bs : List ℕ) (room : ℕ) (old : RecordLists) where
   -- What is answered, and what the lists hold.
   abbrev pub Result : Answer PlanFigures → RecordLists → Type 0
-  Result r new = (r ≡ figuresOf (readPlan room bs)) × Filled (bucketsOf (readPlan room bs)) old new
+  Result r new = (r ≡ recordedFigures (readPlan room bs)) × Filled (bucketsOf (readPlan room bs)) old new
 
-  pub read-refused : (r : Answer PlanFigures) (n : ℕ) → r ≡ figuresOf (planIn bs) → planIn bs ≡ refused n → Result r old
+  pub read-refused : (r : Answer PlanFigures) (n : ℕ) → r ≡ recordedFigures (planIn bs) → planIn bs ≡ refused n → Result r old
   read-refused r n e f =
       let g : readPlan room bs ≡ refused n = sym (then-refused (planIn bs) (fitting room) f) in
-      (e ∙ ap figuresOf (f ∙ sym g), lists-kept _ old n (ap bucketsOf g))
+      (e ∙ ap recordedFigures (f ∙ sym g), lists-kept _ old n (ap bucketsOf g))
 
   module _ (y : PlanFigures) (p : IsPlan bs y) where
     count : length (bucketsIn bs) ≡ y .buckets
@@ -186,7 +187,7 @@ module _ (bs : List ℕ) (room : ℕ) (old : RecordLists) where
     read-full h =
         let k : leb (length (bucketsIn bs)) room ≡ false = ap (λ (n : ℕ). leb n room) count ∙ h in
         let g : readPlan room bs ≡ refused 6 = sym (then-figures (planIn bs) (fitting room) (p .is-read)) ∙ ap (λ (ok : Bool). weigh ok 6 (figures (recordedIn bs))) k in
-        (sym (ap figuresOf g), lists-kept _ old 6 (ap bucketsOf g))
+        (sym (ap recordedFigures g), lists-kept _ old 6 (ap bucketsOf g))
 
     module _ (h : leb (y .buckets) room ≡ true) where
       -- one figure of each record, stored at the front
@@ -204,7 +205,7 @@ module _ (bs : List ℕ) (room : ℕ) (old : RecordLists) where
           ∙ sets-front (map figure (bucketsIn bs)) xs (omega (arith, length-map (bucketsIn bs) figure, count))
           ∙ ap (λ (a : Answer Recorded). recorded figure (bucketsOf a) xs) (sym fits)
 
-      pub read-loaded : (new : RecordLists) → y .buckets ≤ roomOf (old .runs) (old .rates) (old .depths) → figures y ≡ figuresOf (planIn bs)
+      pub read-loaded : (new : RecordLists) → y .buckets ≤ roomOf (old .runs) (old .rates) (old .depths) → figures y ≡ recordedFigures (planIn bs)
           → (new .runs ≡ stored runLength (old .runs)) × ((new .rates ≡ stored runRate (old .rates)) × (new .depths ≡ stored runDepth (old .depths)))
           → Result (figures y) new
       read-loaded new m e s =
@@ -212,7 +213,7 @@ module _ (bs : List ℕ) (room : ℕ) (old : RecordLists) where
           let runs-are = loaded runLength (old .runs) (new .runs) (l .first) (s .0) in
           let rates-are = loaded runRate (old .rates) (new .rates) (l .second) (s .1 .0) in
           let depths-are = loaded runDepth (old .depths) (new .depths) (l .third) (s .1 .1) in
-          (e ∙ ap figuresOf (p .is-read ∙ sym fits), (runs-are, (rates-are, depths-are)))
+          (e ∙ ap recordedFigures (p .is-read ∙ sym fits), (runs-are, (rates-are, depths-are)))
 
 -- ---- Writing, rule by rule
 

@@ -12,7 +12,8 @@ use lib.ListN.{length, getD}
 use Rattle.terms.specs.declared.BucketRecord.{BucketRecord}
 use Rattle.terms.specs.Bools.{and-both, both-and}
 use Rattle.terms.specs.Ranges.{recordOk}
-use Rattle.terms.specs.RangeLaws.{RecordRange, record-range, record-ok}
+use Rattle.terms.specs.RangeRules.{RecordRange}
+use Rattle.terms.specs.RangeLaws.{record-range, record-ok}
 use Rattle.terms.specs.Records.{Cutting, runLength, total}
 use Rattle.plan_file.specs.declared.records.Tally.{Tally}
 use Rattle.encoding.specs.Number.{itemsAt}

@@ -26,7 +26,7 @@ ghost use Rattle.terms.specs.Lent.{filled};
 ghost use Rattle.encoding.specs.Fill.{fillSays};
 ghost use Rattle.encoding.specs.Number.{bytesOf, bytesOfAll};
 ghost use Rattle.record_list.specs.Lists.{Filled, Wide, lists, recordsOf};
-ghost use Rattle.plan_file.specs.Plan.{bucketsOf, countsOk, figuresOf, planFile, planIn, planSays, planWords, readPlan, VeryPlan};
+ghost use Rattle.plan_file.specs.Plan.{bucketsOf, countsOk, recordedFigures, planFile, planIn, planSays, planWords, readPlan, VeryPlan};
 
 const PLAN_KIND: u32 = 2;
 
@@ -49,7 +49,7 @@ pub fn read_lists(
     depths: &mut [u32],
 ) -> PlanAnswer
     requires { ⌜ Wide (now runs) (now rates) (now depths) ⌝ }
-    ensures { λ r. ⌜ planSays r ≡ figuresOf (readPlan room (now (bytes .entry))) ⌝ }
+    ensures { λ r. ⌜ planSays r ≡ recordedFigures (readPlan room (now (bytes .entry))) ⌝ }
     ensures { λ _. ⌜ Filled (bucketsOf (readPlan room (now (bytes .entry))))
         (lists (now (runs .entry)) (now (rates .entry)) (now (depths .entry)))
         (lists (now (runs .exit)) (now (rates .exit)) (now (depths .exit))) ⌝ }
@@ -69,7 +69,7 @@ pub fn read_lists(
 
 // Weighs all that a plan file holds: its figures, or refusal 1 to 5.
 fn plan_in(bytes: &[u8]) -> PlanAnswer
-    ensures { λ r. ⌜ planSays r ≡ figuresOf (planIn (now (bytes .entry))) ⌝ }
+    ensures { λ r. ⌜ planSays r ≡ recordedFigures (planIn (now (bytes .entry))) ⌝ }
 {
     if bytes.len() < COST_OFFSET {
         return PlanAnswer::Refused(Refusal::Short);

@@ -10,11 +10,11 @@ use Rattle.terms.specs.declared.BucketRecord.{BucketRecord}
 use Rattle.terms.specs.declared.Tariff.{Tariff}
 use Rattle.terms.specs.Answer.{figures}
 use Rattle.terms.specs.AnswerLaws.{on-figures, then-found}
-use Rattle.terms.specs.RangeLaws.{TariffRange, RecordRange}
+use Rattle.terms.specs.RangeRules.{TariffRange, RecordRange}
 use Rattle.terms.specs.Records.{Cutting, runLength, total}
 use Rattle.series.specs.Cutting.{FirstRun, none, run}
-use Rattle.series.specs.Series.{Carried, ServesRun, seriesOf}
-use Rattle.series.specs.SeriesLaws.{Cheapest, series-cheapest}
+use Rattle.series.specs.Series.{Carried, Cheapest, ServesRun, seriesOf}
+use Rattle.series.specs.SeriesLaws.{series-cheapest}
 use Rattle.order_file.specs.Ordered.{ordered}
 use Rattle.order_file.specs.OrderedLaws.{IsOrdered, is-ordered}
 use Rattle.planning.specs.Planning.{Planned, planned}

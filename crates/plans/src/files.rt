@@ -16,13 +16,13 @@ ghost use Rattle.terms.specs.Lent.{filled};
 ghost use Rattle.encoding.specs.Fill.{fillSays};
 ghost use Rattle.record_list.specs.Lists.{counted};
 ghost use Rattle.plan_file.specs.CallLaws.{loadCount};
-ghost use Rattle.plan_file.specs.Plan.{bucketsOf, figuresOf, planSays, readPlan, VeryPlan, writePlan};
+ghost use Rattle.plan_file.specs.Plan.{bucketsOf, recordedFigures, planSays, readPlan, VeryPlan, writePlan};
 
 // Reads a plan from any bytes: T, the number of buckets and the cost; its records fill the front of
 // the lent list. Or refusal 1 to 5, or 6 (a list with fewer entries than buckets), and the list is
 // as it was. Bytes that are read are the very file that writing those figures gives.
 pub fn read_plan(bytes: &[u8], list: &mut [BucketRecord]) -> PlanAnswer
-    ensures { λ r. ⌜ (planSays r ≡ figuresOf (readPlan (length (now (list .entry))) (now (bytes .entry))))
+    ensures { λ r. ⌜ (planSays r ≡ recordedFigures (readPlan (length (now (list .entry))) (now (bytes .entry))))
         × (now (list .exit) ≡ filled (bucketsOf (readPlan (length (now (list .entry))) (now (bytes .entry)))) (now (list .entry)))
         × VeryPlan (now (bytes .entry)) (readPlan (length (now (list .entry))) (now (bytes .entry))) ⌝ }
 {

@@ -15,7 +15,8 @@ use Rattle.terms.specs.AnswerLaws.{figures-refused, same-figures, on-refused, t
 use Rattle.terms.specs.Lent.{filled}
 use Rattle.terms.specs.LentLaws.{fills-front, front-count}
 use Rattle.terms.specs.Limits.{traceLimit}
-use Rattle.terms.specs.RangeLaws.{FactorRange, FreshRange, RecordRange, factor-range}
+use Rattle.terms.specs.RangeLaws.{factor-range}
+use Rattle.terms.specs.RangeRules.{FactorRange, FreshRange, RecordRange}
 use Rattle.terms.specs.Ranges.{factorOk}
 use Rattle.terms.specs.Records.{Cutting, runLength, total}
 use Rattle.bucket.specs.Laws.{demands-take, demands-drop}
@@ -24,7 +25,7 @@ use Rattle.meter.specs.declared.meters.Meter.{Meter}
 use Rattle.meter.specs.Meter.{meterOn}
 use Rattle.meter.specs.MeterRuns.{run-metered}
 use Rattle.plan_file.specs.declared.plans.PlanFigures.{PlanFigures}
-use Rattle.plan_file.specs.Plan.{Recorded, planFile, readPlan, figuresOf, bucketsOf}
+use Rattle.plan_file.specs.Plan.{Recorded, planFile, readPlan, recordedFigures, bucketsOf}
 use Rattle.plan_file.specs.PlanLaws.{file-read}
 use Rattle.plan_file.specs.PlanRules.{CountsRange, WriteRules, write-rules}
 use Rattle.record_list.specs.ListLaws.{lists-hold, lists-kept, noRecord, room-kept}
@@ -111,12 +112,12 @@ module _ (x : PlanFigures) (f : Factor) (ds : List ℕ) (room : ℕ) (xs : Cutti
         reads-front : readPlan space front ≡ figures plan
         reads-front = file-read room (length bytes) x xs front count written-front space (leb-true _ _ h)
 
-        pub read-taken : (m : ℕ) → refused m ≡ figuresOf (readPlan space front) → ⊥
-        read-taken m g = figures-refused (sym (g ∙ ap figuresOf reads-front))
+        pub read-taken : (m : ℕ) → refused m ≡ recordedFigures (readPlan space front) → ⊥
+        read-taken m g = figures-refused (sym (g ∙ ap recordedFigures reads-front))
 
-        module _ (y : PlanFigures) (g : figures y ≡ figuresOf (readPlan space front)) (back′ : RecordLists) (k : Filled (bucketsOf (readPlan space front)) back back′) where
+        module _ (y : PlanFigures) (g : figures y ≡ recordedFigures (readPlan space front)) (back′ : RecordLists) (k : Filled (bucketsOf (readPlan space front)) back back′) where
           y-is : y ≡ record { periods = x .periods; buckets = length xs; cost = x .cost }
-          y-is = same-figures (g ∙ ap figuresOf reads-front)
+          y-is = same-figures (g ∙ ap recordedFigures reads-front)
 
           same-count : y .buckets ≡ length xs
           same-count = ap (λ (z : PlanFigures). z .buckets) y-is

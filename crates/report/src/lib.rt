@@ -65,7 +65,7 @@ pub fn agreement(cases: u32, agreed: u32) {
 // The word refused and the number.
 pub fn refusal(x: Refusal) {
     words(b" refused");
-    number(terms::number_of(x) as u64);
+    number(terms::refusal_number(x) as u64);
 }
 
 // Spare and discards, or the refusal.

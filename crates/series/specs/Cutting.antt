@@ -2,6 +2,7 @@
 -- is the length of its run, `periods x`, and its price, `price x`.
 -- Assumes nothing.
 use Prim.Native.Nat.{ℕ, zero, suc, _≤_}
+use mathlib.Core.Path.{_≡_}
 use mathlib.Core.Bool.{Bool, true, false}
 use mathlib.Core.List.{List, [], _∷_}
 use lib.ListN.{length, take, drop, getD}
@@ -19,6 +20,14 @@ pub record FirstRun {X : Type 0} (periods : X → ℕ) (Fits : List ℕ → X �
 pub data Cuts {X : Type 0} (periods : X → ℕ) (Fits : List ℕ → X → Type 0) : List ℕ → List X → Type 0 where
   none : Cuts periods Fits [] []
   run : {ds : List ℕ} {x : X} {xs : List X} → FirstRun periods Fits ds x → Cuts periods Fits (drop (periods x) ds) xs → Cuts periods Fits ds (x ∷ xs)
+
+-- x is the `choice` for a run.
+abbrev pub Matches : {X : Type 0} → (List ℕ → Answer X) → List ℕ → X → Type 0
+Matches choice es x = choice es ≡ figures x
+
+-- The runs make up the periods in their order, and each has its own `choice`.
+abbrev pub Choices : {X : Type 0} → (X → ℕ) → (List ℕ → Answer X) → List ℕ → List X → Type 0
+Choices periods choice = Cuts periods (Matches choice)
 
 -- The longer first run, then the longer second run, and so on.
 unfoldable pub longer : {X : Type 0} → (X → ℕ) → List X → List X → Bool

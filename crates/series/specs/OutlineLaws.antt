@@ -8,7 +8,7 @@ use lib.ListN.{length, length-drop}
 use Rattle.terms.specs.declared.Tariff.{Tariff}
 use Rattle.terms.specs.Answer.{Answer, figures, refused}
 use Rattle.terms.specs.Limits.{feeLimit, traceLimit}
-use Rattle.terms.specs.RangeLaws.{TariffRange}
+use Rattle.terms.specs.RangeRules.{TariffRange}
 use Rattle.terms.specs.Records.{Cutting, total}
 use Rattle.single.specs.CostLaws.{periodLimit, cost-le}
 use Rattle.first_runs.specs.Outline.{unpriced}

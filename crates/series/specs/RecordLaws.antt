@@ -12,10 +12,11 @@ use Rattle.terms.specs.declared.BucketRecord.{BucketRecord}
 use Rattle.terms.specs.declared.Tariff.{Tariff}
 use Rattle.terms.specs.Answer.{Answer, figures, refused}
 use Rattle.terms.specs.Limits.{traceLimit}
-use Rattle.terms.specs.RangeLaws.{PeriodsRange, TariffRange, periods-ok, tariff-ok}
+use Rattle.terms.specs.RangeRules.{PeriodsRange, TariffRange}
+use Rattle.terms.specs.RangeLaws.{periods-ok, tariff-ok}
 use Rattle.single.specs.Single.{singleOf}
 use Rattle.series.specs.RunLaws.{best-runs, best-of-none}
-use Rattle.series.specs.Series.{runCost, recordOf, runRecord, cheapestCut, planOf}
+use Rattle.series.specs.Series.{runCost, recordFor, runRecord, cheapestCut, planOf}
 use Rattle.record_list.specs.FrontLaws.{front, front-filled, next-map}
 use Rattle.record_list.specs.ListLaws.{noRecord}
 use Rattle.record_list.specs.Lists.{recorded}
@@ -26,7 +27,7 @@ use Rattle.series.specs.Outline.{outlineOf}
 use Rattle.series.specs.SuffixLaws.{Kept, outlineFrom, outline-none, outline-found, outline-plan}
 
 -- The record of a run is what the single call finds for it.
-pub record-single : (t : Tariff) (run : List ℕ) → TariffRange t → PeriodsRange (length run) → runRecord t run ≡ recordOf (length run) (singleOf t run)
+pub record-single : (t : Tariff) (run : List ℕ) → TariffRange t → PeriodsRange (length run) → runRecord t run ≡ recordFor (length run) (singleOf t run)
 unfolding singleOf
 record-single t run h few = rw (periods-ok _ few, tariff-ok t h) refl
 

@@ -12,7 +12,7 @@ use lib.Seq.{length-take-le}
 use Rattle.terms.specs.Answer.{Answer, figures, refused, choose}
 use Rattle.terms.specs.AnswerLaws.{figures-refused, same-figures}
 use Rattle.single.specs.PreferenceLaws.{smaller-same}
-use Rattle.series.specs.Cutting.{FirstRun, Cuts, none, run, longer, wins, joined, bestFirst, bests, best}
+use Rattle.series.specs.Cutting.{FirstRun, none, run, Matches, Choices, longer, wins, joined, bestFirst, bests, best}
 use Rattle.terms.specs.Records.{total}
 use Rattle.series.specs.CuttingLaws.{cut-first}
 
@@ -39,13 +39,6 @@ parts (figures x) (refused n) e = absurd (figures-refused (sym e))
 parts (refused n) rest e = absurd (figures-refused (sym e))
 
 module _ {X : Type 0} (periods price : X → ℕ) (choice : List ℕ → Answer X) where
-  -- The runs make up the periods, and each has its `choice`.
-  abbrev Matches : List ℕ → X → Type 0
-  Matches es x = choice es ≡ figures x
-
-  abbrev pub Choices : List ℕ → List X → Type 0
-  Choices = Cuts periods Matches
-
   -- The best for what is left after n periods.
   pub bests-at : (ds : List ℕ) (n : ℕ) → n ≤ length ds → getD (bests periods price choice ds) n (refused 7) ≡ best periods price choice (drop n ds)
   unfolding bests
@@ -100,28 +93,28 @@ module _ {X : Type 0} (periods price : X → ℕ) (choice : List ℕ → Answer 
         }
 
     -- Each run has its `choice`.
-    pub best-choices : (ds : List ℕ) (xs : List X) → best periods price choice ds ≡ figures xs → Choices ds xs
-    best-choices ds [] e = subst (λ (es : List ℕ). Choices es []) (sym (best-of-none ds e)) none
+    pub best-choices : (ds : List ℕ) (xs : List X) → best periods price choice ds ≡ figures xs → Choices periods choice ds xs
+    best-choices ds [] e = subst (λ (es : List ℕ). Choices periods choice es []) (sym (best-of-none ds e)) none
     best-choices ds (x ∷ xs) e =
         let k = best-runs ds x xs e in
-        let f : FirstRun periods Matches ds x = record { some = k .some; inside = k .inside; fits = k .first } in
+        let f : FirstRun periods (Matches choice) ds x = record { some = k .some; inside = k .inside; fits = k .first } in
         run f (best-choices (drop (periods x) ds) xs (k .onward))
 
   -- Of two different cuttings with such choices one wins.
-  choices-same : (ds : List ℕ) (xs ys : List X) → Choices ds xs → Choices ds ys → longer periods xs ys ≡ false → longer periods ys xs ≡ false → xs ≡ ys
+  choices-same : (ds : List ℕ) (xs ys : List X) → Choices periods choice ds xs → Choices periods choice ds ys → longer periods xs ys ≡ false → longer periods ys xs ≡ false → xs ≡ ys
   unfolding longer
   choices-same ds [] [] c d h k = refl
   choices-same ds [] (y ∷ ys) c d h k = absurd (true≢false k)
   choices-same ds (x ∷ xs) [] c d h k = absurd (true≢false h)
   choices-same ds (x ∷ xs) (y ∷ ys) c d h k =
       let s = smaller-same (periods y) (periods x) (longer periods xs ys) (longer periods ys xs) h k in
-      let f = cut-first periods price Matches c in
-      let g = cut-first periods price Matches d in
+      let f = cut-first periods price (Matches choice) c in
+      let g = cut-first periods price (Matches choice) d in
       let e : x ≡ y = same-figures (sym (f .0 .fits) ∙ ap (λ (n : ℕ). choice (take n ds)) (sym (s .0)) ∙ g .0 .fits) in
       ap (λ (z : X). z ∷ xs) e
-      ∙ ap (λ (zs : List X). y ∷ zs) (choices-same (drop (periods y) ds) xs ys (subst (λ (n : ℕ). Choices (drop n ds) xs) (sym (s .0)) (f .1)) (g .1) (s .1) (s .2))
+      ∙ ap (λ (zs : List X). y ∷ zs) (choices-same (drop (periods y) ds) xs ys (subst (λ (n : ℕ). Choices periods choice (drop n ds) xs) (sym (s .0)) (f .1)) (g .1) (s .1) (s .2))
 
-  pub choices-only : (ds : List ℕ) (xs ys : List X) → Choices ds xs → Choices ds ys → wins periods price xs ys ≡ false → wins periods price ys xs ≡ false → xs ≡ ys
+  pub choices-only : (ds : List ℕ) (xs ys : List X) → Choices periods choice ds xs → Choices periods choice ds ys → wins periods price xs ys ≡ false → wins periods price ys xs ≡ false → xs ≡ ys
   unfolding wins
   choices-only ds xs ys c d h k =
       let a = smaller-same (total price xs) (total price ys) _ _ h k in

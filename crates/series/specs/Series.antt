@@ -2,8 +2,9 @@
 -- The search goes from the end of the trace to its start. That no carried cutting does better, whatever its runs and its
 -- buckets, is a law (`SeriesLaws.series-cheapest`).
 -- Assumes nothing.
-use Prim.Native.Nat.{ℕ}
-use mathlib.Core.Bool.{Bool}
+use Prim.Native.Nat.{ℕ, _≤_}
+use mathlib.Core.Path.{_≡_}
+use mathlib.Core.Bool.{Bool, false}
 use mathlib.Core.List.{List}
 use lib.Dec.{leb}
 use lib.ListN.{length}
@@ -19,7 +20,7 @@ use Rattle.single.specs.Single.{Serves, cheapestOf}
 use Rattle.series.specs.declared.plans.Plan.{Plan}
 use Rattle.series.specs.declared.plans.SeriesAnswer.{SeriesAnswer}
 use Rattle.series.specs.declared.plans.SeriesAnswer.the-variants.{Found, Refused}
-use Rattle.series.specs.Cutting.{Cuts, wins, best}
+use Rattle.series.specs.Cutting.{Cuts, Choices, wins, best}
 
 -- A run is billed for its exact length, with its own fee.
 abbrev pub runCost : Tariff → BucketRecord → ℕ
@@ -38,18 +39,29 @@ abbrev pub Carried : Tariff → List ℕ → Cutting → Type 0
 Carried t = Cuts runLength (ServesRun t)
 
 -- xs is chosen before ys: the least cost; then fewer buckets; then the longer first run, the longer second and so on.
-abbrev pub preferred : Tariff → Cutting → Cutting → Bool
-preferred t = wins runLength (runCost t)
+abbrev pub cuttingPreferred : Tariff → Cutting → Cutting → Bool
+cuttingPreferred t = wins runLength (runCost t)
 
 -- The record of a run of n periods with the bucket found for it.
-abbrev pub recordOf : ℕ → Answer Priced → Answer BucketRecord
-recordOf n = onFigures (λ x. record { periods = n; bucket = x .bucket })
+abbrev pub recordFor : ℕ → Answer Priced → Answer BucketRecord
+recordFor n = onFigures (λ x. record { periods = n; bucket = x .bucket })
+
+-- The record of a run with its single bucket.
+abbrev pub runRecord : Tariff → List ℕ → Answer BucketRecord
+runRecord t run = recordFor (length run) (cheapestOf t run)
 
 -- Each bucket is the single answer for its run.
-abbrev pub runRecord : Tariff → List ℕ → Answer BucketRecord
-runRecord t run = recordOf (length run) (cheapestOf t run)
+abbrev pub Singles : Tariff → List ℕ → Cutting → Type 0
+Singles t = Choices runLength (runRecord t)
 
--- The best cutting of a trace.
+-- xs is the series answer of document 01 for the trace.
+pub record Cheapest (t : Tariff) (ds : List ℕ) (xs : Cutting) : Type 0 where
+  pub carried : Carried t ds xs
+  pub singles : Singles t ds xs
+  pub cheapest : (ys : Cutting) → Carried t ds ys → trueCost t xs ≤ trueCost t ys
+  pub none-preferred : (ys : Cutting) → Carried t ds ys → cuttingPreferred t ys xs ≡ false
+
+-- The best cutting of a trace, by a search.
 abbrev pub cheapestCut : Tariff → List ℕ → Answer Cutting
 cheapestCut t = best runLength (runCost t) (runRecord t)
 

@@ -6,7 +6,7 @@
 use Prim.Native.Nat.{ℕ, _≤_}
 use native.Mathlib.Omega.{arith}
 use mathlib.Core.Path.{_≡_, refl, sym, ap, subst}
-use mathlib.Core.Bool.{true, false}
+use mathlib.Core.Bool.{true}
 use mathlib.Core.List.{List}
 use borrow.Author.Tests.{leb-true}
 use lib.Dec.{leb}
@@ -21,15 +21,15 @@ use Rattle.single.specs.Cost.{costOf}
 use Rattle.single.specs.Single.{cheapestOf}
 use Rattle.single.specs.SingleLaws.{IsSingle, cheapest-is, cheapest-least}
 use Rattle.series.specs.CuttingLaws.{IsBestCut, IsChoice, not-wins-cost, bests-are}
-use Rattle.series.specs.RunLaws.{Choices, best-choices, choices-only}
-use Rattle.series.specs.Series.{runCost, trueCost, ServesRun, Carried, preferred, recordOf, runRecord, cheapestCut, seriesOf}
+use Rattle.series.specs.RunLaws.{best-choices, choices-only}
+use Rattle.series.specs.Series.{runCost, ServesRun, Carried, Cheapest, recordFor, runRecord, cheapestCut, seriesOf}
 use Rattle.terms.specs.Records.{Cutting, runLength}
 
 module _ (t : Tariff) where
   -- ---- A run's record
 
   -- The single bucket is the cheapest choice for its run.
-  chosen : (ds : List ℕ) (a : Answer Priced) → IsSingle t ds a → IsChoice runLength (runCost t) (ServesRun t) ds (recordOf (length ds) a)
+  chosen : (ds : List ℕ) (a : Answer Priced) → IsSingle t ds a → IsChoice runLength (runCost t) (ServesRun t) ds (recordFor (length ds) a)
   chosen ds (figures x) k =
       record {
         whole = refl;
@@ -46,22 +46,11 @@ module _ (t : Tariff) where
   pub record-whole : (run : List ℕ) (x : BucketRecord) → runRecord t run ≡ figures x → runLength x ≡ length run
   record-whole run x e = go (cheapestOf t run) e
     where
-      go : (a : Answer Priced) → recordOf (length run) a ≡ figures x → runLength x ≡ length run
+      go : (a : Answer Priced) → recordFor (length run) a ≡ figures x → runLength x ≡ length run
       go (figures p) f = ap runLength (sym (same-figures f))
       go (refused n) f = absurd (figures-refused (sym f))
 
   -- ---- The cutting
-
-  -- Each bucket is the single answer for its run.
-  abbrev pub Singles : List ℕ → Cutting → Type 0
-  Singles = Choices runLength (runCost t) (runRecord t)
-
-  -- xs is the series answer for the trace.
-  pub record Cheapest (ds : List ℕ) (xs : Cutting) : Type 0 where
-    pub carried : Carried t ds xs
-    pub singles : Singles ds xs
-    pub cheapest : (ys : Cutting) → Carried t ds ys → trueCost t xs ≤ trueCost t ys
-    pub none-preferred : (ys : Cutting) → Carried t ds ys → preferred t ys xs ≡ false
 
   abbrev pub NoCutting : List ℕ → Type 0
   NoCutting ds = (xs : Cutting) → Carried t ds xs → ⊥
@@ -73,7 +62,7 @@ module _ (t : Tariff) where
     pub series-is : IsSeries ds (cheapestCut t ds)
     series-is = bests-are runLength (runCost t) (ServesRun t) (runRecord t) run-chosen ds 0 (omega arith)
 
-    cut-cheapest : (xs : Cutting) → cheapestCut t ds ≡ figures xs → Cheapest ds xs
+    cut-cheapest : (xs : Cutting) → cheapestCut t ds ≡ figures xs → Cheapest t ds xs
     cut-cheapest xs e =
         let b = subst (IsSeries ds) e series-is in
         record {
@@ -84,7 +73,7 @@ module _ (t : Tariff) where
         }
 
     -- There is one such cutting only.
-    pub series-only : (xs ys : Cutting) → Cheapest ds xs → Cheapest ds ys → xs ≡ ys
+    pub series-only : (xs ys : Cutting) → Cheapest t ds xs → Cheapest t ds ys → xs ≡ ys
     series-only xs ys k l =
         choices-only runLength (runCost t) (runRecord t) ds xs ys (k .singles) (l .singles) (l .none-preferred xs (k .carried)) (k .none-preferred ys (l .carried))
 
@@ -92,7 +81,7 @@ module _ (t : Tariff) where
 
     module _ (room : ℕ) where
       -- Figures are the series answer.
-      pub series-cheapest : (xs : Cutting) → seriesOf t room ds ≡ figures xs → Cheapest ds xs
+      pub series-cheapest : (xs : Cutting) → seriesOf t room ds ≡ figures xs → Cheapest t ds xs
       unfolding seriesOf
       series-cheapest xs e =
           let h = weigh-figures (periodsOk (length ds)) 3 (weigh (tariffOk t) 5 (weigh (leb (length ds) room) 6 (cheapestCut t ds))) e .1 in

@@ -16,7 +16,7 @@ use lib.Seq.{getD-take, getD-drop, drop-drop, getD-set-same, getD-set-other}
 use Rattle.terms.specs.declared.Tariff.{Tariff}
 use Rattle.terms.specs.Answer.{Answer, figures, refused}
 use Rattle.terms.specs.Limits.{traceLimit}
-use Rattle.terms.specs.RangeLaws.{TariffRange}
+use Rattle.terms.specs.RangeRules.{TariffRange}
 use Rattle.terms.specs.Records.{Cutting, runLength, total}
 use Rattle.single.specs.Cost.{costOf}
 use Rattle.single.specs.PreferenceLaws.{not-smaller, smaller-not}
@@ -32,7 +32,7 @@ use Rattle.series.specs.CuttingLaws.{cut-first}
 use Rattle.series.specs.Outline.{outlineOf}
 use Rattle.series.specs.OutlineLaws.{carried-below, outline-cost, outline-count}
 use Rattle.series.specs.RunLaws.{best-of-none, best-runs}
-use Rattle.series.specs.Series.{runCost, trueCost, ServesRun, Carried, preferred, runRecord, cheapestCut, planOf}
+use Rattle.series.specs.Series.{runCost, trueCost, ServesRun, Carried, cuttingPreferred, runRecord, cheapestCut, planOf}
 use Rattle.series.specs.SeriesLaws.{IsSeries, series-is, record-whole}
 
 -- The outline of the best cutting of what is left from a period on.
@@ -83,7 +83,7 @@ first-not-longer [] xs h = le-ltb (firstRun runLength xs) 0 (omega arith)
 first-not-longer (y ∷ ys) [] h = absurd (true≢false h)
 first-not-longer (y ∷ ys) (x ∷ xs) h = le-ltb (runLength x) (runLength y) (smaller-not (runLength x) (runLength y) _ h .0)
 
-not-preferred-ahead : (t : Tariff) (ys xs : Cutting) → preferred t ys xs ≡ false → ahead (outlineOf t (figures ys)) (outlineOf t (figures xs)) ≡ false
+not-preferred-ahead : (t : Tariff) (ys xs : Cutting) → cuttingPreferred t ys xs ≡ false → ahead (outlineOf t (figures ys)) (outlineOf t (figures xs)) ≡ false
 unfolding wins ahead
 not-preferred-ahead t ys xs h =
     let c = smaller-not (trueCost t ys) (trueCost t xs) _ h in

@@ -13,7 +13,7 @@ use terms::tariff_in_range;
 ghost use Prim.Native.Nat.{_≤_};
 ghost use mathlib.Core.Path.{_≡_};
 ghost use lib.ListN.{length};
-ghost use Rattle.terms.specs.RangeLaws.{PeriodsRange, TariffRange};
+ghost use Rattle.terms.specs.RangeRules.{PeriodsRange, TariffRange};
 ghost use Rattle.record_list.specs.Lists.{Filled, Wide, lists, roomOf};
 ghost use Rattle.series.specs.Series.{cheapestCut, planOf, seriesOf, seriesSays};
 

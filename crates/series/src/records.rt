@@ -10,7 +10,7 @@ ghost use Prim.Native.Nat.{_≤_};
 ghost use mathlib.Core.Path.{_≡_};
 ghost use lib.ListN.{length};
 ghost use Rattle.terms.specs.Answer.{figures};
-ghost use Rattle.terms.specs.RangeLaws.{PeriodsRange, TariffRange};
+ghost use Rattle.terms.specs.RangeRules.{PeriodsRange, TariffRange};
 ghost use Rattle.series.specs.RecordLaws.{Firsts, HasBucket};
 ghost use Rattle.series.specs.Series.{cheapestCut, runRecord};
 ghost use Rattle.record_list.specs.Lists.{Filled, lists, roomOf};

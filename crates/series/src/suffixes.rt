@@ -8,7 +8,7 @@ use terms::limits::TRACE_LIMIT;
 ghost use Prim.Native.Nat.{_≤_};
 ghost use lib.ListN.{length};
 ghost use Rattle.terms.specs.Limits.{traceLimit};
-ghost use Rattle.terms.specs.RangeLaws.{TariffRange};
+ghost use Rattle.terms.specs.RangeRules.{TariffRange};
 ghost use Rattle.series.specs.SuffixLaws.{Kept};
 
 // An entry for each period of the longest trace, and one for after its last.

@@ -76,6 +76,6 @@ fn same_answer(a: SeriesAnswer, choice: Choice) -> bool {
             let buckets = x.buckets == buckets_of(choice.cutting);
             priced & buckets & (x.cost == choice.cost as u64)
         }
-        SeriesAnswer::Refused(x) => !priced & (terms::number_of(x) == 7),
+        SeriesAnswer::Refused(x) => !priced & (terms::refusal_number(x) == 7),
     }
 }

@@ -10,7 +10,7 @@ use Rattle.terms.specs.declared.Tariff.{Tariff}
 use Rattle.terms.specs.Answer.{Answer, figures, refused, andThen}
 use Rattle.terms.specs.AnswerLaws.{on-refused, then-figures, then-refused}
 use Rattle.terms.specs.Limits.{traceLimit}
-use Rattle.terms.specs.RangeLaws.{BucketRange, TariffRange}
+use Rattle.terms.specs.RangeRules.{BucketRange, TariffRange}
 use Rattle.single.specs.declared.costs.Priced.{Priced}
 use Rattle.single.specs.CostLaws.{cost-le}
 use Rattle.single.specs.Single.{singleOf}

@@ -4,7 +4,7 @@ use samples::file_bytes::LENT;
 use samples::file_bytes::LENT_BYTES;
 use samples::file_bytes::lent_front;
 use terms::Refusal;
-use terms::number_of;
+use terms::refusal_number;
 use text::refusal_line;
 
 pub fn edges() {
@@ -28,7 +28,7 @@ fn around(why: Refusal) {
 fn line_in(why: Refusal, room: usize) {
     let mut text = [LENT; LENT_BYTES];
     let answer = refusal_line(why, lent_front(&mut text, room));
-    report::figure(b"refusal", number_of(why) as u64);
+    report::figure(b"refusal", refusal_number(why) as u64);
     report::figure(b" in", room as u64);
     print(answer, &text);
 }

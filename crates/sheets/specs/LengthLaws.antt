@@ -12,7 +12,7 @@ use lib.Signed.{_≤ℤ_, nonNeg, leZ}
 use Rattle.terms.specs.declared.Bucket.{Bucket}
 use Rattle.terms.specs.declared.Tariff.{Tariff}
 use Rattle.terms.specs.Limits.{traceLimit}
-use Rattle.terms.specs.RangeLaws.{BucketRange, TariffRange}
+use Rattle.terms.specs.RangeRules.{BucketRange, TariffRange}
 use Rattle.terms.specs.Records.{Cutting, runLength}
 use Rattle.bucket.specs.Least.{least-first}
 use Rattle.bucket.specs.Laws.{sub-is, start-le, carried-spare}

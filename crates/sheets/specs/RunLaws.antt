@@ -11,7 +11,8 @@ use Rattle.terms.specs.declared.BucketRecord.{BucketRecord}
 use Rattle.terms.specs.declared.Factor.{Factor}
 use Rattle.terms.specs.Answer.{figures}
 use Rattle.terms.specs.Limits.{traceLimit}
-use Rattle.terms.specs.RangeLaws.{FactorRange, FreshRange, RecordRange, PeriodsRange, fresh-ok, periods-ok}
+use Rattle.terms.specs.RangeRules.{FactorRange, FreshRange, RecordRange, PeriodsRange}
+use Rattle.terms.specs.RangeLaws.{fresh-ok, periods-ok}
 use Rattle.terms.specs.Records.{Cutting, Each, runLength, total}
 use Rattle.bucket.specs.Trial.{trialFigures, trialOf}
 use Rattle.record_list.specs.Lists.{listed, recordsOf}

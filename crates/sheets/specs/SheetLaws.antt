@@ -13,7 +13,7 @@ use Rattle.terms.specs.declared.Tariff.{Tariff}
 use Rattle.terms.specs.Answer.{Answer, figures, refused}
 use Rattle.terms.specs.AnswerLaws.{on-refused, then-figures, then-refused}
 use Rattle.terms.specs.Limits.{traceLimit}
-use Rattle.terms.specs.RangeLaws.{RecordRange, TariffRange}
+use Rattle.terms.specs.RangeRules.{RecordRange, TariffRange}
 use Rattle.terms.specs.Records.{Cutting, Each}
 use Rattle.series.specs.Cutting.{none, run}
 use Rattle.series.specs.Series.{Carried, trueCost}

@@ -10,7 +10,7 @@ use text::lines::put_bucket_line;
 ghost use Prim.Native.Nat.{_+_, _≤_};
 ghost use mathlib.Core.Path.{_≡_};
 ghost use lib.ListN.{length};
-ghost use Rattle.terms.specs.RangeLaws.{FreshRange, PeriodsRange};
+ghost use Rattle.terms.specs.RangeRules.{FreshRange, PeriodsRange};
 ghost use Rattle.bucket.specs.Trial.{trialFigures};
 ghost use Rattle.record_list.specs.Lists.{recordsOf, roomOf};
 ghost use Rattle.text.specs.PutLaws.{Puts};

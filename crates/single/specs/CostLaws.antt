@@ -7,7 +7,7 @@ use mathlib.Core.Path.{_≡_, ap}
 use Rattle.terms.specs.declared.Bucket.{Bucket}
 use Rattle.terms.specs.declared.Tariff.{Tariff}
 use Rattle.terms.specs.Limits.{rateLimit, depthLimit, priceLimit, feeLimit}
-use Rattle.terms.specs.RangeLaws.{BucketRange, TariffRange}
+use Rattle.terms.specs.RangeRules.{BucketRange, TariffRange}
 use Rattle.single.specs.declared.costs.Priced.{Priced}
 use Rattle.single.specs.Cost.{costOf, pricedAt}
 

@@ -23,7 +23,7 @@ use Rattle.single.specs.Single.{Serves, cheapestOf, singleOf}
 
 -- x is the single bucket of the trace: it is inside the caps and carries the trace, its cost is its own, and no bucket inside
 -- the caps that carries the trace is preferred to it.
-pub record Cheapest (t : Tariff) (ds : List ℕ) (x : Priced) : Type 0 where
+pub record CheapestBucket (t : Tariff) (ds : List ℕ) (x : Priced) : Type 0 where
   pub serves : Serves t ds (x .bucket)
   pub paid : x .cost ≡ costOf t (length ds) (x .bucket)
   pub none-preferred : (b : Bucket) → Serves t ds b → preferred (pricedAt t (length ds) b) x ≡ false
@@ -32,7 +32,7 @@ abbrev pub NoBucket : Tariff → List ℕ → Type 0
 NoBucket t ds = (b : Bucket) → Serves t ds b → ⊥
 
 abbrev pub IsSingle : Tariff → List ℕ → Answer Priced → Type 0
-IsSingle t ds (figures x) = Cheapest t ds x
+IsSingle t ds (figures x) = CheapestBucket t ds x
 IsSingle t ds (refused n) = (n ≡ 7) × NoBucket t ds
 
 module _ (t : Tariff) (ds : List ℕ) where
@@ -53,14 +53,14 @@ module _ (t : Tariff) (ds : List ℕ) where
   cheapest-is = single-best (cheapestOf t ds) (best-is t ds (candidates t))
 
   -- No other bucket that carries the trace costs less.
-  pub cheapest-least : {x : Priced} → Cheapest t ds x → (b : Bucket) → Serves t ds b → x .cost ≤ costOf t (length ds) b
+  pub cheapest-least : {x : Priced} → CheapestBucket t ds x → (b : Bucket) → Serves t ds b → x .cost ≤ costOf t (length ds) b
   cheapest-least k b s = not-preferred-cost _ _ (k .none-preferred b s)
 
   -- There is one answer of that kind only.
   pub single-only : (a c : Answer Priced) → IsSingle t ds a → IsSingle t ds c → a ≡ c
   single-only (figures x) (figures y) k l = ap figures (preferred-total x y (not-before x y k l) (not-before y x l k))
     where
-      not-before : (x y : Priced) → Cheapest t ds x → Cheapest t ds y → preferred x y ≡ false
+      not-before : (x y : Priced) → CheapestBucket t ds x → CheapestBucket t ds y → preferred x y ≡ false
       not-before x y k l =
           ap (λ (z : Priced). preferred z y) (priced-is t (length ds) x (k .paid)) ∙ l .none-preferred (x .bucket) (k .serves)
   single-only (figures x) (refused n) k l = absurd (l .1 (x .bucket) (k .serves))
@@ -70,7 +70,7 @@ module _ (t : Tariff) (ds : List ℕ) where
   -- ---- The call
 
   -- Figures are the single bucket.
-  pub single-cheapest : {x : Priced} → singleOf t ds ≡ figures x → Cheapest t ds x
+  pub single-cheapest : {x : Priced} → singleOf t ds ≡ figures x → CheapestBucket t ds x
   unfolding singleOf
   single-cheapest e =
       let h = weigh-figures (periodsOk (length ds)) 3 (weigh (tariffOk t) 5 (cheapestOf t ds)) e .1 in

@@ -5,7 +5,7 @@ use terms::Tariff;
 ghost use Prim.Native.Nat.{_≤_};
 ghost use mathlib.Core.Path.{_≡_};
 ghost use Rattle.terms.specs.Limits.{traceLimit};
-ghost use Rattle.terms.specs.RangeLaws.{BucketRange, TariffRange};
+ghost use Rattle.terms.specs.RangeRules.{BucketRange, TariffRange};
 ghost use Rattle.single.specs.Cost.{costOf, pricedAt};
 
 // A bucket and what it costs.

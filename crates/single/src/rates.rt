@@ -4,7 +4,7 @@ use terms::Tariff;
 use terms::numbers::greater;
 use terms::numbers::lesser;
 ghost use mathlib.Core.Path.{_≡_};
-ghost use Rattle.terms.specs.RangeLaws.{TariffRange};
+ghost use Rattle.terms.specs.RangeRules.{TariffRange};
 ghost use Rattle.single.specs.Rates.{greatest, weighed};
 
 // How many rates, from 0 on, have to be weighed: up to the rate cap, and none above the greatest

@@ -14,7 +14,7 @@ use terms::periods_in_range;
 use terms::tariff_in_range;
 ghost use mathlib.Core.Path.{_≡_};
 ghost use lib.ListN.{length};
-ghost use Rattle.terms.specs.RangeLaws.{PeriodsRange, TariffRange};
+ghost use Rattle.terms.specs.RangeRules.{PeriodsRange, TariffRange};
 ghost use Rattle.single.specs.Rates.{dearer};
 ghost use Rattle.single.specs.Single.{cheapestOf, singleOf, singleSays};
 

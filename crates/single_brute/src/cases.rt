@@ -41,7 +41,7 @@ fn same_single(a: SingleAnswer, best: Best) -> bool {
             let depth = x.bucket.depth.0 == best.depth as u32;
             best.found & rate & depth & (x.cost == best.cost as u64)
         }
-        SingleAnswer::Refused(x) => !best.found & (terms::number_of(x) == 7),
+        SingleAnswer::Refused(x) => !best.found & (terms::refusal_number(x) == 7),
     }
 }
 
@@ -62,6 +62,6 @@ fn depths_agree(trace: &[u16], small: Small) -> bool {
 fn same_depth(a: DepthAnswer, depth: u32) -> bool {
     match a {
         DepthAnswer::Found(b) => b.0 == depth,
-        DepthAnswer::Refused(x) => (depth == 256) & (terms::number_of(x) == 7),
+        DepthAnswer::Refused(x) => (depth == 256) & (terms::refusal_number(x) == 7),
     }
 }

@@ -3,6 +3,7 @@ pub mod Answer
 pub mod Refusals
 pub mod Limits
 pub mod Ranges
+pub mod RangeRules
 pub mod Records
 pub mod Lent
 pub mod AnswerLaws

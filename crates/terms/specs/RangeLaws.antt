@@ -1,6 +1,6 @@
--- Ranges as orders of numbers, and that each is equivalent to its test.
+-- Each range as orders of numbers (`RangeRules`) is equivalent to its test (`Ranges`).
 -- Assumes nothing.
-use Prim.Native.Nat.{ℕ, _≤_}
+use Prim.Native.Nat.{ℕ}
 use native.Mathlib.Omega.{arith}
 use mathlib.Core.Path.{_≡_}
 use mathlib.Core.Bool.{true}
@@ -12,12 +12,8 @@ use Rattle.terms.specs.declared.BucketRecord.{BucketRecord}
 use Rattle.terms.specs.declared.Tariff.{Tariff}
 use Rattle.terms.specs.Limits.{rateLimit, depthLimit, priceLimit, feeLimit, partsLimit, traceLimit}
 use Rattle.terms.specs.Ranges.{factorOk, bucketOk, freshOk, recordOk, tariffOk, periodsOk}
+use Rattle.terms.specs.RangeRules.{FactorRange, BucketRange, FreshRange, RecordRange, TariffRange, PeriodsRange}
 use Rattle.terms.specs.Bools.{and-both, and-three, and-six, both-and}
-
-pub record FactorRange (f : Factor) : Type 0 where
-  pub part : f .p ≤ f .q
-  pub some : 1 ≤ f .q
-  pub few : f .q ≤ partsLimit
 
 pub factor-range : (f : Factor) → factorOk f ≡ true → FactorRange f
 factor-range f h =
@@ -27,19 +23,11 @@ factor-range f h =
 pub factor-ok : (f : Factor) → FactorRange f → factorOk f ≡ true
 factor-ok f k = both-and (both-and (le-leb _ _ (k .part)) (le-leb _ _ (k .some))) (le-leb _ _ (k .few))
 
-pub record BucketRange (b : Bucket) : Type 0 where
-  pub rates : b .rate .0 ≤ rateLimit
-  pub depths : b .depth .0 ≤ depthLimit
-
 pub bucket-range : (b : Bucket) → bucketOk b ≡ true → BucketRange b
 bucket-range b h = let k = and-both (leb (b .rate .0) rateLimit) (leb (b .depth .0) depthLimit) h in omega (arith, leb-true)
 
 pub bucket-ok : (b : Bucket) → BucketRange b → bucketOk b ≡ true
 bucket-ok b k = both-and (le-leb _ _ (k .rates)) (le-leb _ _ (k .depths))
-
-pub record RecordRange (x : BucketRecord) : Type 0 where
-  pub some : 1 ≤ x .periods
-  pub bucket : BucketRange (x .bucket)
 
 pub record-range : (x : BucketRecord) → recordOk x ≡ true → RecordRange x
 record-range x h =
@@ -49,10 +37,6 @@ record-range x h =
 pub record-ok : (x : BucketRecord) → RecordRange x → recordOk x ≡ true
 record-ok x k = both-and (le-leb _ _ (k .some)) (bucket-ok (x .bucket) (k .bucket))
 
-pub record FreshRange (b : Bucket) (f : Factor) : Type 0 where
-  pub bucket : BucketRange b
-  pub factor : FactorRange f
-
 pub fresh-range : (b : Bucket) (f : Factor) → freshOk b f ≡ true → FreshRange b f
 fresh-range b f h =
     let k = and-both (bucketOk b) (factorOk f) h in
@@ -60,14 +44,6 @@ fresh-range b f h =
 
 pub fresh-ok : (b : Bucket) (f : Factor) → FreshRange b f → freshOk b f ≡ true
 fresh-ok b f k = both-and (bucket-ok b (k .bucket)) (factor-ok f (k .factor))
-
-pub record TariffRange (t : Tariff) : Type 0 where
-  pub rate-prices : t .«rate_price» .0 ≤ priceLimit
-  pub depth-prices : t .«depth_price» .0 ≤ priceLimit
-  pub fees : t .fee ≤ feeLimit
-  pub factor : FactorRange (t .factor)
-  pub rate-caps : t .«rate_cap» .0 ≤ rateLimit
-  pub depth-caps : t .«depth_cap» .0 ≤ depthLimit
 
 pub tariff-range : (t : Tariff) → tariffOk t ≡ true → TariffRange t
 tariff-range t h =
@@ -86,10 +62,6 @@ tariff-ok t k =
     let prices = both-and (le-leb _ _ (k .rate-prices)) (le-leb _ _ (k .depth-prices)) in
     let figures = both-and (both-and prices (le-leb _ _ (k .fees))) (factor-ok (t .factor) (k .factor)) in
     both-and (both-and figures (le-leb _ _ (k .rate-caps))) (le-leb _ _ (k .depth-caps))
-
-pub record PeriodsRange (n : ℕ) : Type 0 where
-  pub some : 1 ≤ n
-  pub few : n ≤ traceLimit
 
 pub periods-range : (n : ℕ) → periodsOk n ≡ true → PeriodsRange n
 periods-range n h = let k = and-both (leb 1 n) (leb n traceLimit) h in omega (arith, leb-true)

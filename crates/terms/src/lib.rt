@@ -12,7 +12,7 @@ pub use ranges::periods_in_range;
 pub use ranges::record_in_range;
 pub use ranges::tariff_in_range;
 pub use refusal::Refusal;
-pub use refusal::number_of;
+pub use refusal::refusal_number;
 
 // Tokens gained in each period. One token pays for one kilobit.
 pub struct Rate(pub u32);

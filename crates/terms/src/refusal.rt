@@ -24,7 +24,7 @@ pub enum Refusal {
 }
 
 // The number that a refusal is printed by.
-pub fn number_of(x: Refusal) -> u32
+pub fn refusal_number(x: Refusal) -> u32
     ensures { λ r. ⌜ r ≡ numberOf x ⌝ }
 {
     match x {

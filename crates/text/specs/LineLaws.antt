@@ -9,7 +9,7 @@ use lib.ListN.{length, length-append}
 use Rattle.terms.specs.declared.Bucket.{Bucket}
 use Rattle.terms.specs.declared.refusal.Refusal.{Refusal}
 use Rattle.terms.specs.declared.refusal.Refusal.the-variants.{Short, Foreign, Periods, Misplaced, Figure, List, NoPlan, Meter, Full}
-use Rattle.terms.specs.RangeLaws.{BucketRange}
+use Rattle.terms.specs.RangeRules.{BucketRange}
 use Rattle.terms.specs.Refusals.{numberOf}
 use Rattle.text.specs.Numeral.{numeral, ended}
 use Rattle.text.specs.Megabits.{megabits}

@@ -5,7 +5,7 @@ use crate::lines::put_refusal_line;
 use crate::numerals::places;
 use encoding::FillAnswer;
 use terms::Refusal;
-use terms::number_of;
+use terms::refusal_number;
 ghost use mathlib.Core.Path.{_≡_};
 ghost use lib.ListN.{length};
 ghost use Rattle.terms.specs.Answer.{onFigures};
@@ -42,7 +42,7 @@ pub fn refusal_line(why: Refusal, text: &mut [u8]) -> FillAnswer
     ensures { λ r. ⌜ fillSays r ≡ onFigures length (fitted (length (now (text .entry))) (refusalLine (numberOf why))) ⌝ }
     ensures { λ _. ⌜ now (text .exit) ≡ filled (fitted (length (now (text .entry))) (refusalLine (numberOf why))) (now (text .entry)) ⌝ }
 {
-    let number = number_of(why);
+    let number = refusal_number(why);
     if text.len() < REFUSAL_WORD + places(number as u64) {
         return FillAnswer::Refused(Refusal::List);
     }

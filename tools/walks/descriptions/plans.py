@@ -61,9 +61,9 @@ PLANNING = filling(
 READ = 'readPlan (length list) bytes'
 READING = filling(
     'files', 'read_plan', 'reading', 'reads', 'plan_file::lists::read_lists', 'plan_file::plans::PlanAnswer', 'planSays',
-    '(length list) bytes', 'bucketsOf (%s)' % READ, 'figuresOf (%s)' % READ, ['bytes', 'list'], [],
+    '(length list) bytes', 'bucketsOf (%s)' % READ, 'recordedFigures (%s)' % READ, ['bytes', 'list'], [],
     ['use Rattle.plan_file.specs.CallLaws.{count-is, count-fits}',
-     'use Rattle.plan_file.specs.Plan.{bucketsOf, figuresOf, planSays, readPlan, VeryPlan}'],
+     'use Rattle.plan_file.specs.Plan.{bucketsOf, planSays, readPlan, recordedFigures, VeryPlan}'],
     more=[('very', 'VeryPlan bytes (%s)' % READ)])
 
 FILE = 'planFile (length list) (length bytes) figs (recordsOf (figs .buckets) lengths rates depths)'

@@ -13,7 +13,8 @@ use Rattle.terms.specs.declared.Tariff.{Tariff}
 use Rattle.terms.specs.Answer.{Answer}
 use Rattle.terms.specs.Limits.{rateLimit}
 use Rattle.terms.specs.Ranges.{periodsOk, tariffOk}
-use Rattle.terms.specs.RangeLaws.{FactorRange, TariffRange, periods-range, tariff-range}
+use Rattle.terms.specs.RangeRules.{FactorRange, TariffRange}
+use Rattle.terms.specs.RangeLaws.{periods-range, tariff-range}
 use Rattle.terms.specs.Bools.{and-both, check-passed, check-failed}
 use Rattle.depth.specs.declared.walk.Walk.{Walk}
 use Rattle.depth.specs.Depth.{rateOk, depthOf}

@@ -4,7 +4,7 @@ use mathlib.Core.Bool.{true}
 use borrow.Author.Needs.{needs}
 use Rattle.terms.specs.Ranges.{freshOk}
 use Rattle.terms.specs.RangeLaws.{fresh-range}
-use Rattle.meter.specs.Meter.{countsOk, meterOk}
+use Rattle.meter.specs.Meter.{totalsOk, meterOk}
 use Rattle.meter.specs.MeterLaws.{counts-range}
 use Rattle.terms.specs.Bools.{check-passed, check-failed}
 use Rattle.meter.proofs.meters.record_in_order.Statement.{statement}
@@ -18,7 +18,7 @@ fresh : (c : tie.Else1) → let m = c .before .before .before .before .args .m i
 fresh c = check-passed (c .before .fresh-in-range .ensures) (c .if1 .left)
 
 -- past the second
-counts : (c : tie.Else2) → countsOk (c .before .before .before .before .before .before .args .m) ≡ true
+counts : (c : tie.Else2) → totalsOk (c .before .before .before .before .before .before .args .m) ≡ true
 counts c = check-passed (c .before .counts-in-range .ensures) (c .if2 .left)
 
 returns : tie.Need-returns

@@ -12,7 +12,7 @@ use Rattle.terms.specs.Limits.{costLimit}
 use Rattle.encoding.specs.Number.{numberAt}
 use Rattle.encoding.specs.Header.{placedAs}
 use Rattle.encoding.specs.HeaderLaws.{placed-range}
-use Rattle.plan_file.specs.Plan.{bucketsOffset, costOffset, countsOk, figuresOf, planKind, planLength, recordsIn, recordsOk}
+use Rattle.plan_file.specs.Plan.{bucketsOffset, costOffset, countsOk, planKind, planLength, recordedFigures, recordsIn, recordsOk}
 use Rattle.plan_file.specs.PlanRules.{bucketsIn, planPlaced, CountsRange, counts-range, plan-short, plan-foreign, plan-periods, plan-misplaced, plan-cost, plan-records, plan-figures, figures-are}
 use borrow.Author.Needs.{needs}
 use Rattle.plan_file.proofs.lists.plan_in.Statement.{statement}
@@ -62,13 +62,13 @@ records-are : (bs : List ℕ) (T k : ℕ) → T ≡ numberAt 4 bs 4 → k ≡ nu
 records-are bs T k e f = ap₂ (λ (m n : ℕ). recordsOk m (recordsIn n bs)) (sym e) (sym f)
 
 returns : tie.Need-returns
-returns c = sym (ap figuresOf (plan-short _ (lt-leb _ _ (c .if1 .taken))))
+returns c = sym (ap recordedFigures (plan-short _ (lt-leb _ _ (c .if1 .taken))))
 
 word-at-requires : tie.Need-word-at-requires
 word-at-requires c κs = search needs
 
 returns-2 : tie.Need-returns-2
-returns-2 c = sym (ap figuresOf (plan-foreign _ (long (c .before .before)) (ne-eqb _ _ (λ e. c .if2 .taken (c .before .word-at .ensures ∙ e)))))
+returns-2 c = sym (ap recordedFigures (plan-foreign _ (long (c .before .before)) (ne-eqb _ _ (λ e. c .if2 .taken (c .before .word-at .ensures ∙ e)))))
 
 word-at-requires-2 : tie.Need-word-at-requires-2
 word-at-requires-2 c κs = search needs
@@ -84,7 +84,7 @@ returns-3 c =
     let w = c .before .before in
     let d = w .before .before in
     let e = counts-are w _ _ (w .before .word-at2 .ensures) (w .word-at3 .ensures) ∙ check-failed (c .before .counts-in-range .ensures) (c .if3 .taken) in
-    sym (ap figuresOf (plan-periods _ (long (d .before .before)) (kind d) e))
+    sym (ap recordedFigures (plan-periods _ (long (d .before .before)) (kind d) e))
 
 cast-length : tie.Need-cast-length
 cast-length c = search needs
@@ -105,7 +105,7 @@ returns-4 c =
     let k = w .before .before in
     let bs = k .before .before .before .before .args .bytes .now in
     let e = ap (λ (n : ℕ). placedAs 12 costOffset bucketsOffset (planLength n) bs) (sym (w .word-at3 .ensures)) in
-    sym (ap figuresOf (plan-misplaced _ (long (k .before .before)) (kind k) (counts d) (e ∙ check-failed (c .before .placed .ensures) (c .if4 .taken))))
+    sym (ap recordedFigures (plan-misplaced _ (long (k .before .before)) (kind k) (counts d) (e ∙ check-failed (c .before .placed .ensures) (c .if4 .taken))))
 
 number-at-requires : tie.Need-number-at-requires
 number-at-requires c κs = (omega arith, omega (arith, bytes-are c))
@@ -116,7 +116,7 @@ returns-5 c =
     let d = p .before .before in
     let k = d .before .before .before .before in
     let e = ap (λ (n : ℕ). leb n costLimit) (sym (c .before .number-at .ensures .0)) ∙ lt-leb _ _ (c .if5 .taken) in
-    sym (ap figuresOf (plan-cost _ (long (k .before .before)) (kind k) (counts d) (places p) e))
+    sym (ap recordedFigures (plan-cost _ (long (k .before .before)) (kind k) (counts d) (places p) e))
 
 cast-records-in-file : tie.Need-cast-records-in-file
 cast-records-in-file c = search needs
@@ -137,7 +137,7 @@ returns-6 c =
     let w = d .before .before in
     let k = w .before .before in
     let e = records-are _ _ _ (w .before .word-at2 .ensures) (w .word-at3 .ensures) ∙ check-failed (c .before .records-in-file .ensures) (c .if6 .taken) in
-    sym (ap figuresOf (plan-records _ (long (k .before .before)) (kind k) (counts d) (places p) (cost o) e))
+    sym (ap recordedFigures (plan-records _ (long (k .before .before)) (kind k) (counts d) (places p) (cost o) e))
 
 returns-7 : tie.Need-returns-7
 returns-7 c =
@@ -149,7 +149,7 @@ returns-7 c =
     let bs = k .before .before .before .before .args .bytes .now in
     let e = records-are bs _ _ (w .before .word-at2 .ensures) (w .word-at3 .ensures) ∙ check-passed (c .before .records-in-file .ensures) (c .if6 .left) in
     figures-are bs _ _ _ (w .before .word-at2 .ensures) (w .word-at3 .ensures) (o .before .number-at .ensures .0)
-    ∙ sym (ap figuresOf (plan-figures bs (long (k .before .before)) (kind k) (counts d) (places p) (cost o) e))
+    ∙ sym (ap recordedFigures (plan-figures bs (long (k .before .before)) (kind k) (counts d) (places p) (cost o) e))
 
 pub plan-in-spec : {M : Type 1} → statement M
 plan-in-spec =

@@ -9,7 +9,7 @@ use Rattle.terms.specs.AnswerLaws.{on-refused}
 use Rattle.record_list.specs.Lists.{lists, roomOf}
 use Rattle.plan_file.specs.declared.plans.PlanFigures.{PlanFigures}
 use Rattle.encoding.specs.NumberLaws.{Bytes}
-use Rattle.plan_file.specs.Plan.{figuresOf, planIn, planSays, readPlan, VeryPlan}
+use Rattle.plan_file.specs.Plan.{recordedFigures, planIn, planSays, readPlan, VeryPlan}
 use Rattle.plan_file.specs.PlanLaws.{very-plan}
 use Rattle.plan_file.specs.PlanRules.{IsPlan, is-plan, plan-few, read-refused, read-full, read-loaded}
 use borrow.Author.Needs.{needs}
@@ -20,7 +20,7 @@ use Rattle.plan_file.proofs.lists.read_lists.Tie as tie
 abbrev found : tie.After-struct-known → PlanFigures
 found c = c .before .before .answer .given .0 .0
 
-read : (c : tie.After-struct-known) → figures (found c) ≡ figuresOf (planIn (c .before .before .before .before .before .before .before .before .before .args .bytes .now))
+read : (c : tie.After-struct-known) → figures (found c) ≡ recordedFigures (planIn (c .before .before .before .before .before .before .before .before .before .args .bytes .now))
 read c = sym (ap planSays (c .before .before .answer .given .1)) ∙ c .before .before .before .before .plan-in .ensures
 
 plan : (c : tie.After-struct-known) → IsPlan (c .before .before .before .before .before .before .before .before .before .args .bytes .now) (found c)

@@ -52,7 +52,7 @@ use Rattle.terms.specs.Lent.{filled}
 use Rattle.record_list.specs.Lists.{Filled, Wide, lists, recordsOf, roomOf, counted}
 use Rattle.record_list.specs.ListLaws.{stored-answer, room-is, wide-zeros}
 use Rattle.plan_file.specs.CallLaws.{count-is, count-fits}
-use Rattle.plan_file.specs.Plan.{bucketsOf, figuresOf, planSays, readPlan, VeryPlan}
+use Rattle.plan_file.specs.Plan.{bucketsOf, recordedFigures, planSays, readPlan, VeryPlan}
 use Rattle.terms.specs.declared.BucketRecord.{BucketRecord}
 use Rattle.terms.proofs.BucketRecord as T
 use Rattle.plan_file.specs.declared.plans.PlanAnswer.{PlanAnswer}
@@ -133,11 +133,11 @@ module _ {M : Type 1} (𝓤 : URA M) (H : Heap 𝓤) (A : Atoms 𝓤) (W : Given
   Post = walkOf 𝓤 H A self.ended stayed (self.clauses 𝓤 H A at-mem run) .post (((κ₀, (κ₁, tt)), (q₀, (q₁, tt)), tt, a, vals), tt)
 
   -- As many records are stored as the answer has, and they fit.
-  is-count : (r : PlanAnswer) (n : ℕ) → planSays r ≡ figuresOf (readPlan (length list) bytes) → n ≡ counted (λ x. x .buckets) (planSays r) →
+  is-count : (r : PlanAnswer) (n : ℕ) → planSays r ≡ recordedFigures (readPlan (length list) bytes) → n ≡ counted (λ x. x .buckets) (planSays r) →
       n ≡ counted length (bucketsOf (readPlan (length list) bytes))
   is-count r n e f = count-is (length list) bytes (planSays r) n e f
 
-  stores : (r : PlanAnswer) (n : ℕ) → planSays r ≡ figuresOf (readPlan (length list) bytes) → n ≡ counted (λ x. x .buckets) (planSays r)
+  stores : (r : PlanAnswer) (n : ℕ) → planSays r ≡ recordedFigures (readPlan (length list) bytes) → n ≡ counted (λ x. x .buckets) (planSays r)
       → (xs ys zs : List ℕ) → length xs ≡ 512 → length ys ≡ 512 → length zs ≡ 512 → (n ≤ length list) × (n ≤ roomOf xs ys zs)
   stores r n e f xs ys zs g h i =
       let k = count-fits (length list) bytes n (is-count r n e f) in
@@ -158,7 +158,7 @@ module _ {M : Type 1} (𝓤 : URA M) (H : Heap 𝓤) (A : Atoms 𝓤) (W : Given
           []
 
       module _ (zeros : List ℕ) (answer : PlanAnswer) (answer-val : Val) (answer-is : Is An.the-row answer (answer-val ∷ [])) (lengths rates depths : List ℕ)
-          (answered : planSays answer ≡ figuresOf (readPlan (length list) bytes)) (held : Filled (bucketsOf (readPlan (length list) bytes))
+          (answered : planSays answer ≡ recordedFigures (readPlan (length list) bytes)) (held : Filled (bucketsOf (readPlan (length list) bytes))
           (lists zeros zeros zeros) (lists lengths rates depths)) (very : VeryPlan bytes (readPlan (length list) bytes)) (count : ℕ)
           (counted : count ≡ counted (λ x. x .buckets) (planSays answer)) (α₄ α₅ α₆ : ℕ) (after : List BucketRecord) (after-long : length after ≡ length list)
           (stored : after ≡ filled (figures (recordsOf count lengths rates depths)) list) where
@@ -220,7 +220,7 @@ module _ {M : Type 1} (𝓤 : URA M) (H : Heap 𝓤) (A : Atoms 𝓤) (W : Given
 
       module _ (zeros : List ℕ) (answer : PlanAnswer) (answer-val : Val) (answer-is : Is An.the-row answer (answer-val ∷ [])) (lengths rates depths : List ℕ)
           (lengths-long : length lengths ≡ 512) (rates-long : length rates ≡ 512) (depths-long : length depths ≡ 512)
-          (answered : planSays answer ≡ figuresOf (readPlan (length list) bytes)) (held : Filled (bucketsOf (readPlan (length list) bytes))
+          (answered : planSays answer ≡ recordedFigures (readPlan (length list) bytes)) (held : Filled (bucketsOf (readPlan (length list) bytes))
           (lists zeros zeros zeros) (lists lengths rates depths)) (very : VeryPlan bytes (readPlan (length list) bytes)) (count : ℕ)
           (count-fits : count < 2 ^ 64) (counted : count ≡ counted (λ x. x .buckets) (planSays answer)) where
         module _ (α₄ α₅ α₆ : ℕ) (γ′₄ γ′₅ γ′₆ : GName) where
@@ -372,7 +372,7 @@ module _ {M : Type 1} (𝓤 : URA M) (H : Heap 𝓤) (A : Atoms 𝓤) (W : Given
 
       module _ (zeros : List ℕ) (α₁ α₂ α₃ : ℕ) (γ′₁ γ′₂ γ′₃ : GName) (answer : PlanAnswer) (answer-val : Val) (answer-is : Is An.the-row answer (answer-val ∷
           [])) (lengths rates depths : List ℕ) (lengths-long : length lengths ≡ 512) (rates-long : length rates ≡ 512) (depths-long : length depths ≡ 512)
-          (answered : planSays answer ≡ figuresOf (readPlan (length list) bytes)) (held : Filled (bucketsOf (readPlan (length list) bytes))
+          (answered : planSays answer ≡ recordedFigures (readPlan (length list) bytes)) (held : Filled (bucketsOf (readPlan (length list) bytes))
           (lists zeros zeros zeros) (lists lengths rates depths)) (very : VeryPlan bytes (readPlan (length list) bytes)) where
         abbrev to-counting : BucketsOf 𝓤 H A at-mem run .Ghost
         to-counting = ((tt, tt, tt, (answer, tt), (answer-val ∷ [], tt)), tt)
@@ -595,10 +595,10 @@ module _ {M : Type 1} (𝓤 : URA M) (H : Heap 𝓤) (A : Atoms 𝓤) (W : Given
                 ),
               ),
             ) last) ⊛
-            raw (fact 𝓤 (planSays answer ≡ figuresOf (readPlan (length list) bytes))) ⊛ raw (fact 𝓤 (Filled (bucketsOf (readPlan (length list) bytes))
+            raw (fact 𝓤 (planSays answer ≡ recordedFigures (readPlan (length list) bytes))) ⊛ raw (fact 𝓤 (Filled (bucketsOf (readPlan (length list) bytes))
             (lists zeros zeros zeros) (lists (last .1 .1 .0) (last .1 .1 .1 .0) (last .1 .1 .1 .1 .0)))) ⊛ raw (fact 𝓤 (VeryPlan bytes (readPlan (length list)
             bytes))))) (id⊢ 𝓤 _) $
-            pick ! (λ last. split ! $ move ! (1 ∷ []) $ split ! $ heard ! (planSays answer ≡ figuresOf (readPlan (length list) bytes)) (λ answered.
+            pick ! (λ last. split ! $ move ! (1 ∷ []) $ split ! $ heard ! (planSays answer ≡ recordedFigures (readPlan (length list) bytes)) (λ answered.
             split ! $
             heard ! (Filled (bucketsOf (readPlan (length list) bytes)) (lists zeros zeros zeros) (lists (last .1 .1 .0) (last .1 .1 .1 .0)
             (last .1 .1 .1 .1 .0))) (λ held.

@@ -10,7 +10,8 @@ use borrow.Author.Tests.{le-leb}
 use lib.ListN.{length}
 use Rattle.terms.specs.declared.Tariff.{Tariff}
 use Rattle.terms.specs.Answer.{figures, refused}
-use Rattle.terms.specs.RangeLaws.{PeriodsRange, TariffRange, tariff-ok, periods-ok}
+use Rattle.terms.specs.RangeRules.{PeriodsRange, TariffRange}
+use Rattle.terms.specs.RangeLaws.{tariff-ok, periods-ok}
 use Rattle.terms.specs.Bools.{both-and}
 use Rattle.terms.specs.declared.refusal.Refusal.the-variants.{NoPlan}
 use Rattle.depth.specs.Depth.{tariffDepth, depthOf, depthSays}

@@ -16,10 +16,10 @@ weighed : (c : tie.After-places) → let n = c .before in
     9 + c .places .result ≡ length (refusalLine (numberOf (n .before .before .args .why)))
 weighed c =
     let n = c .before in
-    rw (sym (n .number-of .ensures)) (ap (λ k. 9 + k) (c .places .ensures) ∙ sym (refusal-length (n .number-of .result)))
+    rw (sym (n .refusal-number .ensures)) (ap (λ k. 9 + k) (c .places .ensures) ∙ sym (refusal-length (n .refusal-number .result)))
 
-number-of-requires : tie.Need-number-of-requires
-number-of-requires c κs = search needs
+refusal-number-requires : tie.Need-number-of-requires
+refusal-number-requires c κs = search needs
 
 cast-places : tie.Need-cast-places
 cast-places c = search needs
@@ -38,7 +38,7 @@ returns c =
 put-refusal-line-requires : tie.Need-put-refusal-line-requires
 put-refusal-line-requires c κs =
     let p = c .before .before in
-    rw (p .before .number-of .ensures) (omega (arith, weighed p, c .before .if1 .left))
+    rw (p .before .refusal-number .ensures) (omega (arith, weighed p, c .before .if1 .left))
 
 same-length : tie.Need-same-length
 same-length c = search needs
@@ -49,13 +49,13 @@ returns-2 c =
     let p = l .before .before .before in
     let s = p .before .before .before .args in
     put-fills (refusalLine (numberOf (s .why))) (s .text .now) (omega (arith, weighed p, l .before .before .if1 .left)) _ _
-    (rw (p .before .number-of .ensures) at (l .put-refusal-line .ensures))
+    (rw (p .before .refusal-number .ensures) at (l .put-refusal-line .ensures))
 
 pub refusal-line-spec : {M : Type 1} → statement M
 refusal-line-spec =
     tie.close
     (tie.spec
-    number-of-requires
+    refusal-number-requires
     cast-places
     places-requires
     add-if1
