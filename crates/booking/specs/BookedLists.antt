@@ -20,7 +20,7 @@ use Rattle.order_file.specs.OrderedLaws.{ordered-count, ordered-min}
 use Rattle.record_list.specs.ListLaws.{stored-answer, stored-none}
 use Rattle.record_list.specs.Lists.{RecordLists, Filled, counted, recordsOf}
 use Rattle.plan_file.specs.Plan.{Recorded}
-use Rattle.planning.specs.Planning.{Planned, planned, plannedRuns, cuttingOf, demandsOf}
+use Rattle.planning.specs.Planning.{Planned, planned, plannedRuns, cuttingOf, plannedDemands}
 use Rattle.planning.specs.PlannedLaws.{IsPlanned, is-planned}
 use Rattle.recording.specs.declared.plans.Booking.{Booking}
 use Rattle.booking.specs.Booking.{Steps, lent, booked, answerOf, lentAfter}
@@ -107,7 +107,7 @@ module _ (bs : List ℕ) (h : Bytes bs) (room space : ℕ) (old called : ListsLe
         ∙ sym (ordered-count (on-own .as-ordered))
 
     called-is : called .demands ≡ filled (figures (spread .demands)) own
-    called-is = c .spreads ∙ ap (λ (a : Answer Planned). filled (demandsOf a) own) (same-plan ∙ found .is-plan)
+    called-is = c .spreads ∙ ap (λ (a : Answer Planned). filled (plannedDemands a) own) (same-plan ∙ found .is-plan)
 
     fits : length (spread .demands) ≤ length own
     fits = spread-rules (length own) (tracePart bs) (spread .demands) (on-own .as-ordered .spread) .1

@@ -14,7 +14,7 @@ use Rattle.record_list.specs.Lists.{RecordLists, Filled, recordsOf}
 use Rattle.plan_file.specs.declared.plans.PlanFigures.{PlanFigures}
 use Rattle.plan_file.specs.Plan.{planFile}
 use Rattle.planning.specs.declared.orders.PlannedOrder.{PlannedOrder}
-use Rattle.planning.specs.Planning.{Planned, planned, plannedFigures, cuttingOf, demandsOf}
+use Rattle.planning.specs.Planning.{Planned, planned, plannedFigures, cuttingOf, plannedDemands}
 use Rattle.planning.specs.CallLaws.{PlansOrder, found-plan, trace-is, plan-is}
 use Rattle.recording.specs.declared.plans.Booking.{Booking}
 use Rattle.recording.specs.Recording.{Recording, recording, written, bookingOf}
@@ -68,7 +68,7 @@ lentLists ds l bs k = record { demands = ds; plan = l; bytes = bs; back = k }
 -- What the calls answer, and what each has left in what it was lent.
 pub record Called (bs : List ℕ) (z : Sizes) (old new : ListsLent) (answer : Answer Booking) : Type 0 where
   pub answers : answer ≡ onFigures answerOf (bookedIn z bs)
-  pub spreads : new .demands ≡ filled (demandsOf (plannedIn z bs)) (old .demands)
+  pub spreads : new .demands ≡ filled (plannedDemands (plannedIn z bs)) (old .demands)
   pub records : Filled (cuttingOf (plannedIn z bs)) (old .plan) (new .plan)
   pub writes : new .bytes ≡ filled (onFigures (λ s. s .recording .file) (bookedIn z bs)) (old .bytes)
   pub reads : Filled (onFigures (λ s. s .recording .plan .buckets) (bookedIn z bs)) (old .back) (new .back)

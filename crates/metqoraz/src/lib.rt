@@ -43,14 +43,16 @@ pub use single::Priced;
 pub use single::SingleAnswer;
 pub use single::single;
 
-// The two files.
+// The two files, and room for the longest.
 pub use encoding::FillAnswer;
+pub use order_file::LONGEST_ORDER;
 pub use order_file::Order;
 pub use order_file::OrderAnswer;
 pub use order_file::read_order;
 pub use order_file::spread;
 pub use order_file::trace_part;
 pub use order_file::write_order;
+pub use plan_file::LONGEST_PLAN;
 pub use plans::PlanAnswer;
 pub use plans::PlanFigures;
 pub use plans::read_plan;
@@ -62,10 +64,15 @@ pub use booking::BookingAnswer;
 pub use booking::MeterTotals;
 pub use booking::book;
 
-// Texts: the services from an order file, a figure in megabits, a refusal.
+// Texts: the services from an order file, a figure in megabits, a refusal; and room for the longest.
+pub use services::LONGEST_SINGLE;
+pub use services::LONGEST_TRIAL;
 pub use services::single_line;
 pub use services::trial_line;
+pub use sheets::LONGEST_SHEET;
 pub use sheets::sheet;
+pub use text::LONGEST_FIGURE;
+pub use text::LONGEST_REFUSAL;
 pub use text::megabits;
 pub use text::refusal_line;
 
@@ -74,6 +81,7 @@ pub use order_text::Cause;
 pub use order_text::Fault;
 pub use order_text::TextAnswer;
 pub use order_text::order_of_text;
+pub use order_text::refusal_of;
 pub use typed_figures::NumberAnswer;
 pub use typed_figures::limit_of;
 pub use typed_figures::number_of;

@@ -20,7 +20,8 @@ use Rattle.order_text.specs.declared.faults.Fault.{Fault}
 use Rattle.order_text.specs.declared.scan.Cursor.{Cursor}
 use Rattle.order_text.specs.declared.scan.Step.{Step}
 use Rattle.order_text.specs.declared.scan.Step.the-variants.{On, Faulty}
-use Rattle.order_text.specs.Text.{read, faulty, started, faultAt, newline, hash, unlessAbove, withDigit, closed, afterByte, scanned}
+use Rattle.text.specs.Lines.{newline}
+use Rattle.order_text.specs.Text.{read, faulty, started, faultAt, hash, unlessAbove, withDigit, closed, afterByte, scanned}
 use Rattle.order_text.specs.ScanLaws.{digit-many, digit-value, closed-factor, closed-figure, goes, goes-line, scanned-next, scanned-end}
 use Rattle.order_text.specs.Cursors.{scanOf, stepSays, Fits, StepFits, Steps, Passes}
 

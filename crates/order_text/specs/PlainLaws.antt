@@ -18,7 +18,8 @@ use Rattle.text.specs.Numeral.{numeral, ended}
 use Rattle.typed_figures.specs.Decimal.{isDigit}
 use Rattle.typed_figures.specs.Figures.{tariffLimits, limitOf, figuresLimit, factorStands}
 use Rattle.typed_figures.specs.DecimalLaws.{push-within, valueFrom, Digits, value-grows, value-digits, digits-are, digits-some}
-use Rattle.order_text.specs.Text.{Reading, read, onRead, thenRead, Scan, newline, passed, withValue, afterByte, scanned, figuresOf, plainText}
+use Rattle.text.specs.Lines.{newline}
+use Rattle.order_text.specs.Text.{Reading, read, onRead, thenRead, Scan, passed, withValue, afterByte, scanned, figuresOf, plainText}
 use Rattle.order_text.specs.ScanLaws.{digit-value, closed-figure, after-digit, after-end, text-closed, enough-all}
 use Rattle.order_text.specs.FigureLaws.{Figures}
 

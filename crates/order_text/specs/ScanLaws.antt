@@ -14,7 +14,8 @@ use Rattle.typed_figures.specs.Decimal.{isDigit, pushed}
 use Rattle.typed_figures.specs.Figures.{tariffFigures, limitOf, figuresLimit, factorStands}
 use Rattle.order_text.specs.declared.faults.Cause.the-variants.{Byte, Factor, Many, Few}
 use Rattle.order_text.specs.declared.faults.Fault.{Fault}
-use Rattle.order_text.specs.Text.{Reading, read, faulty, onRead, thenRead, Scan, started, faultAt, newline, endsFigure, passed, withValue, unlessAbove, withDigit, withFigure, closed, afterByte, scanned, enough, figuresOf}
+use Rattle.text.specs.Lines.{newline}
+use Rattle.order_text.specs.Text.{Reading, read, faulty, onRead, thenRead, Scan, started, faultAt, endsFigure, passed, withValue, unlessAbove, withDigit, withFigure, closed, afterByte, scanned, enough, figuresOf}
 
 -- ---- What is read, or a fault
 

@@ -11,6 +11,7 @@ use Rattle.terms.specs.Refusals.{numberOf}
 use Rattle.encoding.specs.Number.{bytesOfAll}
 use Rattle.order_file.specs.Order.{writeOrder}
 use Rattle.text.specs.Numeral.{numeral, ended}
+use Rattle.text.specs.Lines.{newline}
 use Rattle.typed_figures.specs.Decimal.{isDigit, pushed}
 use Rattle.typed_figures.specs.Figures.{demandsOf, factorStands, figuresLimit, limitOf, tariffFigures, tariffOf}
 use Rattle.order_text.specs.declared.faults.Cause.{Cause}
@@ -54,9 +55,6 @@ started = record { line = 1; comment = false; begun = false; value = 0; figures 
 -- A fault here is about the figure that is begun or due.
 abbrev pub faultAt : Cause → Scan → Fault
 faultAt cause s = record { line = s .line; figure = length (s .figures); cause = cause }
-
-abbrev pub newline : ℕ
-newline = 10
 
 abbrev pub hash : ℕ
 hash = 35

@@ -22,7 +22,7 @@ use Rattle.order_file.specs.declared.orders.Order.{Order}
 use Rattle.order_file.specs.Ordered.{Ordered, ordered, SpreadsOrder}
 use Rattle.order_file.specs.OrderedLaws.{found-order, order-as, demands-are, ordered-count, ordered-found, ordered-refused, ordered-short}
 use Rattle.planning.specs.declared.orders.PlannedOrder.{PlannedOrder}
-use Rattle.planning.specs.Planning.{Planned, planned, plannedRuns, plannedFigures, cuttingOf, demandsOf}
+use Rattle.planning.specs.Planning.{Planned, planned, plannedRuns, plannedFigures, cuttingOf, plannedDemands}
 use Rattle.planning.specs.PlannedLaws.{IsPlanned, is-planned}
 
 -- The plan found with what the order says.
@@ -33,7 +33,7 @@ withOrder o x = record { order = o; plan = x }
 -- refusal what they held.
 pub record PlansOrder (bs demands : List ℕ) (room : ℕ) (plan : RecordLists) (demands′ : List ℕ) (plan′ : RecordLists) (answer : Answer PlannedOrder) : Type 0 where
   pub answers : answer ≡ onFigures plannedFigures (planned (length demands) room bs)
-  pub spreads : demands′ ≡ filled (demandsOf (planned (length demands) room bs)) demands
+  pub spreads : demands′ ≡ filled (plannedDemands (planned (length demands) room bs)) demands
   pub records : Filled (cuttingOf (planned (length demands) room bs)) plan plan′
 
 -- The trace is spread into a list of 512 entries, `blank`.
@@ -43,13 +43,13 @@ module _ (bs demands : List ℕ) (room : ℕ) (plan : RecordLists) (blank : List
   these = planned (length demands) room bs
 
   -- What these are is what is promised of a list that they have filled.
-  plans-as : (a : Answer Planned) → these ≡ a → (demands′ : List ℕ) → demands′ ≡ filled (demandsOf a) demands
+  plans-as : (a : Answer Planned) → these ≡ a → (demands′ : List ℕ) → demands′ ≡ filled (plannedDemands a) demands
       → (plan′ : RecordLists) → Filled (cuttingOf a) plan plan′ → (answer : Answer PlannedOrder) → answer ≡ onFigures plannedFigures a
       → PlansOrder bs demands room plan demands′ plan′ answer
   plans-as a e demands′ d plan′ k answer h =
       record {
         answers = h ∙ ap (onFigures plannedFigures) (sym e);
-        spreads = d ∙ ap (λ (b : Answer Planned). filled (demandsOf b) demands) (sym e);
+        spreads = d ∙ ap (λ (b : Answer Planned). filled (plannedDemands b) demands) (sym e);
         records = subst (λ (b : Answer Planned). Filled (cuttingOf b) plan plan′) (sym e) k;
       }
 
@@ -106,20 +106,20 @@ module _ (bs demands : List ℕ) (room : ℕ) (plan : RecordLists) (blank : List
         answer-is : answer ≡ onFigures plannedFigures (onFigures runs-as answer-for)
         answer-is = h ∙ ap (onFigures (withOrder o)) g ∙ plan-answers answer-for
 
-        planned-so : (demands′ : List ℕ) → demands′ ≡ filled (demandsOf (onFigures runs-as answer-for)) demands → PlansOrder bs demands room plan demands′ plan′ answer
+        planned-so : (demands′ : List ℕ) → demands′ ≡ filled (plannedDemands (onFigures runs-as answer-for)) demands → PlansOrder bs demands room plan demands′ plan′ answer
         planned-so demands′ d =
             plans-as (onFigures runs-as answer-for) runs-planned demands′ d plan′ (subst (λ (a : Answer Cutting). Filled a plan plan′) (cutting-is answer-for) k) answer answer-is
 
         pub series-refused : (n : ℕ) → answer ≡ refused n → PlansOrder bs demands room plan demands plan′ answer
         series-refused n e =
             let m = on-refused plannedFigures (onFigures runs-as answer-for) (sym answer-is ∙ e) in
-            planned-so demands (ap (λ (a : Answer Planned). filled (demandsOf a) demands) (sym m))
+            planned-so demands (ap (λ (a : Answer Planned). filled (plannedDemands a) demands) (sym m))
 
         pub series-planned : (y : PlannedOrder) → answer ≡ figures y → (demands′ : List ℕ) → demands′ ≡ filled (figures ds) demands → PlansOrder bs demands room plan demands′ plan′ answer
         series-planned y e demands′ d =
             let m = on-figures plannedFigures (onFigures runs-as answer-for) (sym answer-is ∙ e) in
             let c = on-figures runs-as answer-for (m .1) in
-            planned-so demands′ (d ∙ ap (λ (a : Answer Cutting). filled (demandsOf (onFigures runs-as a)) demands) (sym (c .1)))
+            planned-so demands′ (d ∙ ap (λ (a : Answer Cutting). filled (plannedDemands (onFigures runs-as a)) demands) (sym (c .1)))
 
 -- ---- A plan that was found
 
@@ -143,7 +143,7 @@ module _ (bs demands : List ℕ) (room : ℕ) (plan : RecordLists) (demands′ :
   pub trace-is : take (y .order .periods) demands′ ≡ found-as .demands
   trace-is =
       ap (λ (n : ℕ). take n demands′) periods-is
-      ∙ ap (take (length (found-as .demands))) (p .spreads ∙ ap (λ (a : Answer Planned). filled (demandsOf a) demands) (found-plan .1))
+      ∙ ap (take (length (found-as .demands))) (p .spreads ∙ ap (λ (a : Answer Planned). filled (plannedDemands a) demands) (found-plan .1))
       ∙ filled-front (found-as .demands) demands
 
   pub trace-count : length (take (y .order .periods) demands′) ≡ y .order .periods

@@ -41,5 +41,5 @@ plannedFigures x = record { order = x .order; plan = record { buckets = length (
 abbrev pub cuttingOf : Answer Planned → Answer Cutting
 cuttingOf = onFigures (λ x. x .cutting)
 
-abbrev pub demandsOf : Answer Planned → Answer (List ℕ)
-demandsOf = onFigures (λ x. x .demands)
+abbrev pub plannedDemands : Answer Planned → Answer (List ℕ)
+plannedDemands = onFigures (λ x. x .demands)
