@@ -1,6 +1,13 @@
-// Prints the lettered figures of document 01 as the calls give them.
+// Prints the lettered figures of document 01 as the calls give them that are offered.
 use list_calls::series_on;
-use meter::MeterAnswer;
+use metqoraz::Bucket;
+use metqoraz::BucketRecord;
+use metqoraz::Depth;
+use metqoraz::Factor;
+use metqoraz::LONGEST_FIGURE;
+use metqoraz::MeterAnswer;
+use metqoraz::Rate;
+use metqoraz::Tariff;
 use samples::file_bytes::front;
 use samples::lists::ENTRIES;
 use samples::lists::record_of;
@@ -13,13 +20,6 @@ use samples::tariffs::tariff_of;
 use samples::tariffs::with_caps;
 use samples::tariffs::with_fee;
 use samples::traces::CASE;
-use terms::Bucket;
-use terms::BucketRecord;
-use terms::Depth;
-use terms::Factor;
-use terms::Rate;
-use terms::Tariff;
-use text::LONGEST_FIGURE;
 
 fn main() {
     row_a();
@@ -48,42 +48,42 @@ fn row_a() {
     let trace = CASE;
     let tariff = printed_case();
     report::words(b"A");
-    report::depth(depth::depth_at(&trace, Rate(4), tariff));
+    report::depth(metqoraz::depth_at(&trace, Rate(4), tariff));
     report::words(b"A");
-    report::depth(depth::depth_at(&trace, Rate(5), tariff));
+    report::depth(metqoraz::depth_at(&trace, Rate(5), tariff));
     report::words(b"A");
-    report::depth(depth::depth_at(&trace, Rate(6), tariff));
+    report::depth(metqoraz::depth_at(&trace, Rate(6), tariff));
 }
 
 // Rate 5 under depth caps 4 and 3.
 fn row_b() {
     let trace = CASE;
     report::words(b"B");
-    report::depth(depth::depth_at(&trace, Rate(5), with_caps(4095, 4)));
+    report::depth(metqoraz::depth_at(&trace, Rate(5), with_caps(4095, 4)));
     report::words(b"B");
-    report::depth(depth::depth_at(&trace, Rate(5), with_caps(4095, 3)));
+    report::depth(metqoraz::depth_at(&trace, Rate(5), with_caps(4095, 3)));
 }
 
 // The single bucket, and the other of equal cost, which a depth cap of 3 leaves.
 fn row_c() {
     let trace = CASE;
     report::words(b"C");
-    report::single(single::single(&trace, printed_case()));
+    report::single(metqoraz::single(&trace, printed_case()));
     report::words(b"C");
-    report::single(single::single(&trace, with_caps(4095, 3)));
+    report::single(metqoraz::single(&trace, with_caps(4095, 3)));
 }
 
 // The single bucket, and then caps that leave only rate 0, 1 and 2.
 fn row_d() {
     let trace: [u16; 1] = [3];
     report::words(b"D");
-    report::single(single::single(&trace, uneven(4095, 1_000_000)));
+    report::single(metqoraz::single(&trace, uneven(4095, 1_000_000)));
     report::words(b"D");
-    report::single(single::single(&trace, uneven(0, 5)));
+    report::single(metqoraz::single(&trace, uneven(0, 5)));
     report::words(b"D");
-    report::single(single::single(&trace, uneven(1, 3)));
+    report::single(metqoraz::single(&trace, uneven(1, 3)));
     report::words(b"D");
-    report::single(single::single(&trace, uneven(2, 2)));
+    report::single(metqoraz::single(&trace, uneven(2, 2)));
 }
 
 // The printed trace at fees 10 and 3, and two traces from empty under caps 5 and 10.
@@ -126,14 +126,14 @@ fn print_bucket(x: BucketRecord) {
 fn row_i() {
     let trace: [u16; 1] = [0];
     report::words(b"I");
-    report::single(single::single(&trace, printed_case()));
+    report::single(metqoraz::single(&trace, printed_case()));
     series_row(b"I", &trace, printed_case());
 }
 
 // A meter of rate 5 and depth 4, offered 4, 8, 2 and 9: sent, over, lost, tokens held.
 fn row_j() {
     report::words(b"J");
-    let a = meter::open_meter(
+    let a = metqoraz::open_meter(
         Bucket {
             rate: Rate(5),
             depth: Depth(4),
@@ -142,10 +142,10 @@ fn row_j() {
     );
     match a {
         MeterAnswer::Opened(m) => {
-            let m = meter::offer(m, 4).meter;
-            let m = meter::offer(m, 8).meter;
-            let m = meter::offer(m, 2).meter;
-            let m = meter::offer(m, 9).meter;
+            let m = metqoraz::offer(m, 4).meter;
+            let m = metqoraz::offer(m, 8).meter;
+            let m = metqoraz::offer(m, 2).meter;
+            let m = metqoraz::offer(m, 9).meter;
             report::totals(m.sent, m.over, m.lost, m.held as u64);
         }
         MeterAnswer::Refused(x) => report::refusal(x),
@@ -157,7 +157,7 @@ fn row_j() {
 fn row_k() {
     let trace = CASE;
     report::words(b"K");
-    report::trial(bucket::trial(
+    report::trial(metqoraz::trial(
         Bucket {
             rate: Rate(5),
             depth: Depth(3),
@@ -180,7 +180,7 @@ fn row_l() {
 // A space and a figure in megabits.
 fn figure(z: i64) {
     let mut text = [0u8; LONGEST_FIGURE];
-    let answer = text::megabits(z, &mut text);
+    let answer = metqoraz::megabits(z, &mut text);
     report::words(b" ");
     report::words(front(&text, report::filled_of(answer)));
 }

@@ -18,7 +18,7 @@ weighed c =
     let n = c .before in
     rw (sym (n .refusal-number .ensures)) (ap (λ k. 9 + k) (c .places .ensures) ∙ sym (refusal-length (n .refusal-number .result)))
 
-refusal-number-requires : tie.Need-number-of-requires
+refusal-number-requires : tie.Need-refusal-number-requires
 refusal-number-requires c κs = search needs
 
 cast-places : tie.Need-cast-places
