@@ -69,10 +69,10 @@ returns-2 c =
     planning-short _ (s .args .demands .now) (s .args .room) (given s) _ size _ _ (w .spread-order .ensures) _ (ap orderSays (order-at (c .before) .x .given .1)) (lt-leb _ _ (c .if1 .taken))
 
 array-share-prefix-trace : tie.Need-array-share-prefix-trace
-array-share-prefix-trace c = inside (c .before .before)
+array-share-prefix-trace c = omega (arith, inside (c .before .before))
 
 slice-aggregate-plan-lists : tie.Need-slice-aggregate-plan-lists
-slice-aggregate-plan-lists c = sym (length-take-le _ _ (inside (c .before .before .before)))
+slice-aggregate-plan-lists c = sym (length-take-le _ _ (omega (arith, inside (c .before .before .before))))
 
 plan-lists-requires : tie.Need-plan-lists-requires
 plan-lists-requires c κs = start-of (spread-at (c .before .before .before .before .before .before)) .pre
