@@ -8,15 +8,14 @@ use terms::Rate;
 use terms::limits::TRACE_LIMIT;
 ghost use Prim.Native.Nat.{_≤_};
 ghost use lib.ListN.{length};
-ghost use Rattle.terms.specs.Limits.{traceLimit};
-ghost use Rattle.plan_file.specs.Plan.{planLength};
+ghost use Rattle.plan_file.specs.Plan.{longestPlan};
 ghost use Rattle.recording.specs.Recording.{bookingSays};
 ghost use Rattle.book.specs.Filed.{BooksFile};
 
 // Books an order: the plan's file fills the front of the bytes, which have room for the longest; or a
 // refusal, and the bytes are as they were.
 pub fn book_file(order: &[u8], bytes: &mut [u8]) -> BookingAnswer
-    requires { ⌜ planLength traceLimit ≤ length (now bytes) ⌝ }
+    requires { ⌜ longestPlan ≤ length (now bytes) ⌝ }
     ensures { λ r. ⌜ BooksFile (now (order .entry)) (now (bytes .entry)) (now (bytes .exit)) (bookingSays r) ⌝ }
 {
     let none = BucketRecord {

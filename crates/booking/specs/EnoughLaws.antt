@@ -15,7 +15,7 @@ use Rattle.encoding.specs.NumberLaws.{length-items}
 use Rattle.order_file.specs.declared.orders.Order.{Order}
 use Rattle.order_file.specs.Order.{traceOffset, tariffIn, readOrder}
 use Rattle.order_file.specs.OrderRules.{read-rules}
-use Rattle.plan_file.specs.Plan.{planLength}
+use Rattle.plan_file.specs.Plan.{longestPlan}
 use Rattle.recording.specs.declared.plans.Booking.{Booking}
 use Rattle.booking.specs.Booking.{Lent}
 use Rattle.booking.specs.Claim.{periodsIn, IsSeriesAnswer, LongEnough, Demand3, Claim}
@@ -24,7 +24,7 @@ use Rattle.booking.specs.Claim.{periodsIn, IsSeriesAnswer, LongEnough, D
 pub record Ample (lent : Lent) : Type 0 where
   pub demands : traceLimit ≤ length (lent .demands)
   pub plan : traceLimit ≤ length (lent .plan)
-  pub bytes : planLength traceLimit ≤ length (lent .bytes)
+  pub bytes : longestPlan ≤ length (lent .bytes)
   pub back : traceLimit ≤ length (lent .back)
 
 module _ (bs : List ℕ) (o : Order) (e : readOrder bs ≡ figures o) where

@@ -22,12 +22,11 @@ PROOFS = [Caller(
              ens=[('claimed', 'Claim order (%s) (lent @spread @planned @file @read-back) (bookingSays answer)'
                    % BLANK)]),
     ],
-    requires=('long', 'planLength traceLimit ≤ length bytes'),
+    requires=('long', 'longestPlan ≤ length bytes'),
     ensures='record { before = %s; after = lent spread planned file read-back; demands = blank₁-long; '
             'plan = blank₂-long; back = blank₂-long; bytes-lent = refl; bytes-left = refl; claim = claimed; '
             'demand-3 = claim-outright _ _ _ _ claimed (record { demands = omega (arith, blank₁-long); '
             'plan = omega (arith, blank₂-long); bytes = long; back = omega (arith, blank₂-long) }) }' % BLANK,
     uses=['use Rattle.recording.specs.Recording.{bookingSays}', 'use Rattle.booking.specs.Booking.{lent}',
           'use Rattle.booking.specs.Claim.{Claim}', 'use Rattle.booking.specs.EnoughLaws.{claim-outright}',
-          'use Rattle.terms.specs.Limits.{traceLimit}', 'use Rattle.plan_file.specs.Plan.{planLength}',
-          'use native.Mathlib.Omega.{arith}'])]
+          'use Rattle.plan_file.specs.Plan.{longestPlan}', 'use native.Mathlib.Omega.{arith}'])]

@@ -51,8 +51,7 @@ use Rattle.recording.specs.Recording.{bookingSays}
 use Rattle.booking.specs.Booking.{lent}
 use Rattle.booking.specs.Claim.{Claim}
 use Rattle.booking.specs.EnoughLaws.{claim-outright}
-use Rattle.terms.specs.Limits.{traceLimit}
-use Rattle.plan_file.specs.Plan.{planLength}
+use Rattle.plan_file.specs.Plan.{longestPlan}
 use Rattle.terms.proofs.Rate as Ra
 use Rattle.terms.proofs.Rate.Laws as Ra′
 use Rattle.terms.proofs.Depth as De
@@ -159,7 +158,7 @@ module _ {M : Type 1} (𝓤 : URA M) (H : Heap 𝓤) (A : Atoms 𝓤) (at-mem : 
 module _ {M : Type 1} (𝓤 : URA M) (H : Heap 𝓤) (A : Atoms 𝓤) (W : Given 𝓤 H A) (at-mem : Memory → SProp 𝓤) (run : Routine → Fun 𝓤)
     (κ₀ κ₁ : Lft) (q₀ q₁ : Share) (b₀ o₀ b₁ o₁ : ℕ) (γ₀ γ₁ : GName)
     (order : List ℕ) (bytes : List ℕ)
-    (room₀ : Room u8 (length order)) (room₁ : Room u8 (length bytes)) (long : planLength traceLimit ≤ length bytes) where
+    (room₀ : Room u8 (length order)) (room₁ : Room u8 (length bytes)) (long : longestPlan ≤ length bytes) where
   zeros-typed-512 : Holds (hasTy (tyArray (tyInt w16) 512) (zeros-val 512)) × WT (zeros-val 512)
   zeros-typed-512 = array-lawful 𝓤 H A W u16 (uint-lawful 𝓤 H A W w16) 512 .typed (replicate 512 0) (zeros-val 512 ∷ []) (zeros-are 512) .0
 
@@ -553,7 +552,7 @@ module _ {M : Type 1} (𝓤 : URA M) (H : Heap 𝓤) (A : Atoms 𝓤) (W : Given
   walks C Λ fm known-book = walked 𝓤 H A self.ended stayed (self.clauses 𝓤 H A at-mem run) (WpFn 𝓤 H C Λ code.function)
       (λ κs. (slice-vals, (slice-vals, tt)))
       (λ κs. (shr-slice-tells (named 0) (κs .0) u8, (mut-slice-tells (named 1) (κs .1 .0) u8, tt)))
-      (λ κs qs bounds a g are. needs 𝓤 (planLength traceLimit ≤ length (a .1 .0 .now)) _ (λ long. walk 𝓤 H A W at-mem run (κs .0) (κs .1 .0) (qs .0) (qs .1 .0)
+      (λ κs qs bounds a g are. needs 𝓤 (longestPlan ≤ length (a .1 .0 .now)) _ (λ long. walk 𝓤 H A W at-mem run (κs .0) (κs .1 .0) (qs .0) (qs .1 .0)
       (a .0 .ptr .0) (a .0 .ptr .1) (a .1 .0 .ptr .0) (a .1 .0 .ptr .1) (a .0 .name) (a .1 .0 .name) (a .0 .now) (a .1 .0 .now) (are .0 .0 .1)
       (are .1 .0 .0 .1) long C Λ fm known-book))
 

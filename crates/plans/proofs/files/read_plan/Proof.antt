@@ -52,7 +52,7 @@ use Rattle.terms.specs.Lent.{filled}
 use Rattle.record_list.specs.Lists.{Filled, Wide, lists, recordsOf, roomOf, counted}
 use Rattle.record_list.specs.ListLaws.{stored-answer, room-is, wide-zeros}
 use Rattle.plan_file.specs.CallLaws.{count-is, count-fits}
-use Rattle.plan_file.specs.Plan.{bucketsOf, recordedFigures, planSays, readPlan, VeryPlan}
+use Rattle.plan_file.specs.Plan.{bucketsOf, planSays, readPlan, recordedFigures, VeryPlan}
 use Rattle.terms.specs.declared.BucketRecord.{BucketRecord}
 use Rattle.terms.proofs.BucketRecord as T
 use Rattle.plan_file.specs.declared.plans.PlanAnswer.{PlanAnswer}
