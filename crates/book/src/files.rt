@@ -1,4 +1,5 @@
-// An order booked with lists that are as long as any order needs.
+// An order booked with lists that are as long as any order needs. Public only for this program, which
+// shows what is required.
 use booking::BookingAnswer;
 use booking::book;
 use terms::Bucket;

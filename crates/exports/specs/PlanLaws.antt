@@ -18,7 +18,7 @@ use Rattle.series.specs.Series.{trueCost}
 use Rattle.record_list.specs.Lists.{RecordLists, Filled, counted, recordsOf, recorded, roomOf}
 use Rattle.record_list.specs.ListLaws.{Rooms, rooms, lists-hold, lists-kept}
 use Rattle.plan_file.specs.declared.plans.PlanFigures.{PlanFigures}
-use Rattle.plan_file.specs.Plan.{Recorded, bucketsOf, planFile, readPlan, recordedFigures}
+use Rattle.plan_file.specs.Plan.{Recorded, bucketsOf, figuresIn, planFile, readPlan, recordedFigures}
 use Rattle.plan_file.specs.CallLaws.{count-fits}
 use Rattle.planning.specs.declared.orders.PlannedOrder.{PlannedOrder}
 use Rattle.planning.specs.Planning.{Planned, planned, plannedFigures}
@@ -100,7 +100,7 @@ module _ (bs : List ℕ) (old : RecordLists) (room : ℕ) (size : room ≡ roomO
       (e ∙ sym (ap (λ (a : Answer Recorded). coded (onFigures (λ x. x .cost) a)) g), lists-kept (bucketsOf (reading bs old old)) old n (ap bucketsOf g))
 
   module _ (y : PlanFigures) (f : answer ≡ figures y) where
-    found : (x : Recorded) × (reading bs old old ≡ figures x) × (record { periods = x .periods; buckets = length (x .buckets); cost = x .cost } ≡ y)
+    found : (x : Recorded) × (reading bs old old ≡ figures x) × (figuresIn x ≡ y)
     found = on-figures _ (reading bs old old) (sym read-as ∙ f)
 
     abbrev xs : Cutting

@@ -21,7 +21,7 @@ use Rattle.bucket.specs.Laws.{start-le}
 use Rattle.meter.specs.declared.meters.Meter.{Meter}
 use Rattle.meter.specs.Meter.{totalsOk, balanced, meterOk, freshMeter, openOf, offerOf, recordAfter}
 
-pub record CountsRange (m : Meter) : Type 0 where
+pub record TotalsRange (m : Meter) : Type 0 where
   pub holds : m .held ≤ m .bucket .depth .0
   pub times : m .periods ≤ meterLimit
   pub sents : m .sent ≤ totalLimit
@@ -29,33 +29,33 @@ pub record CountsRange (m : Meter) : Type 0 where
   pub losts : m .lost ≤ totalLimit
   pub paced : m .over ≤ demandLimit * m .periods
 
-pub counts-range : (m : Meter) → totalsOk m ≡ true → CountsRange m
-counts-range m h =
+pub totals-range : (m : Meter) → totalsOk m ≡ true → TotalsRange m
+totals-range m h =
     let s = leb (m .sent) totalLimit in
     let o = leb (m .over) totalLimit in
     let l = leb (m .lost) totalLimit in
     let k = and-six (leb (m .held) (m .bucket .depth .0)) (leb (m .periods) meterLimit) s o l (leb (m .over) (demandLimit * m .periods)) h in
     omega (arith, leb-true)
 
-pub counts-ok : (m : Meter) → CountsRange m → totalsOk m ≡ true
-counts-ok m k =
+pub totals-ok : (m : Meter) → TotalsRange m → totalsOk m ≡ true
+totals-ok m k =
     both-and (both-and (both-and (both-and (both-and (le-leb _ _ (k .holds)) (le-leb _ _ (k .times))) (le-leb _ _ (k .sents))) (le-leb _ _ (k .overs))) (le-leb _ _ (k .losts))) (le-leb _ _ (k .paced))
 
 -- A record that breaks none of the rules of refusal 8, as orders and an equation of numbers.
 pub record Sound (m : Meter) : Type 0 where
   pub fresh : FreshRange (m .bucket) (m .factor)
-  pub counts : CountsRange m
+  pub totals : TotalsRange m
   pub balance : startOf (m .factor .p) (m .factor .q) (m .bucket .depth .0) + m .bucket .rate .0 * m .periods ≡ m .sent + m .lost + m .held
 
 pub meter-sound : (m : Meter) → meterOk m ≡ true → Sound m
 unfolding meterOk
 meter-sound m h =
     let k = and-three (freshOk (m .bucket) (m .factor)) (totalsOk m) (balanced m) h in
-    record { fresh = fresh-range _ _ (k .0); counts = counts-range m (k .1); balance = eqb-true _ _ (k .2) }
+    record { fresh = fresh-range _ _ (k .0); totals = totals-range m (k .1); balance = eqb-true _ _ (k .2) }
 
 pub sound-meter : (m : Meter) → Sound m → meterOk m ≡ true
 unfolding meterOk
-sound-meter m k = both-and (both-and (fresh-ok _ _ (k .fresh)) (counts-ok m (k .counts))) (eq-eqb _ _ (k .balance))
+sound-meter m k = both-and (both-and (fresh-ok _ _ (k .fresh)) (totals-ok m (k .totals))) (eq-eqb _ _ (k .balance))
 
 -- ---- Opening
 
@@ -109,13 +109,13 @@ taken-sound m d k l h =
     let z = start-le (m .factor .p) (m .factor .q) B (k .fresh .factor .part) in
     record {
       fresh = k .fresh;
-      counts = record {
+      totals = record {
         holds = omega arith;
         times = n;
         sents = omega (arith, k .fresh .bucket .depths);
-        overs = omega (arith, k .counts .paced);
+        overs = omega (arith, k .totals .paced);
         losts = omega (arith, k .fresh .bucket .depths);
-        paced = omega (arith, k .counts .paced);
+        paced = omega (arith, k .totals .paced);
       };
       balance = e;
     }

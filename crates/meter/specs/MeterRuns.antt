@@ -110,7 +110,7 @@ module _ (b : Bucket) (f : Factor) (range : FreshRange b f) where
       let z : startOf (f .p) (f .q) B ≤ B = start-le (f .p) (f .q) B (range .factor .part) in
       record {
         fresh = range;
-        counts = record { holds = z; times = omega arith; sents = omega arith; overs = omega arith; losts = omega arith; paced = omega arith };
+        totals = record { holds = z; times = omega arith; sents = omega arith; overs = omega arith; losts = omega arith; paced = omega arith };
         balance = omega arith;
       }
 

@@ -13,7 +13,7 @@ ghost use mathlib.Core.Path.{_≡_};
 ghost use Rattle.terms.specs.RangeRules.{FreshRange};
 ghost use Rattle.terms.specs.Answer.{figures};
 ghost use Rattle.meter.specs.Meter.{totalsOk, balanced, meterOk, openOf, openSays, recordAfter, Answered};
-ghost use Rattle.meter.specs.MeterLaws.{CountsRange};
+ghost use Rattle.meter.specs.MeterLaws.{TotalsRange};
 
 // A meter's record: the bucket and the factor it was set up with, the tokens it holds, the periods
 // so far, and what was sent, over (discarded) and lost in all of them.
@@ -96,7 +96,7 @@ fn refuse(meter: Meter, why: Refusal) -> Offered
 
 // The record with one period more, counted in each total.
 fn counted(m: Meter, period: Period) -> Meter
-    requires { ⌜ CountsRange m ⌝ }
+    requires { ⌜ TotalsRange m ⌝ }
     ensures { λ r. ⌜ r ≡ recordAfter m (figures period) ⌝ }
 {
     let bucket = m.bucket;
@@ -121,14 +121,14 @@ fn record_in_order(m: Meter) -> bool
     if !fresh_in_range(bucket, factor) {
         return false;
     }
-    if !counts_in_range(m) {
+    if !totals_in_range(m) {
         return false;
     }
     balances(m)
 }
 
 // Whether tokens, periods and totals are within their limits.
-fn counts_in_range(m: Meter) -> bool
+fn totals_in_range(m: Meter) -> bool
     ensures { λ r. ⌜ r ≡ totalsOk m ⌝ }
 {
     (m.held <= m.bucket.depth.0)
@@ -142,7 +142,7 @@ fn counts_in_range(m: Meter) -> bool
 // Whether the starting tokens and the rate of each period are what was sent, lost and is held.
 fn balances(m: Meter) -> bool
     requires { ⌜ FreshRange (m .bucket) (m .factor) ⌝ }
-    requires { ⌜ CountsRange m ⌝ }
+    requires { ⌜ TotalsRange m ⌝ }
     ensures { λ r. ⌜ r ≡ balanced m ⌝ }
 {
     let bucket = m.bucket;

@@ -1,5 +1,5 @@
 // An order read and its trace spread, in one, and demands stored in a lent list. Public only for the
-// crates above, whose calls begin with the one and end with the other.
+// crates above, whose calls begin with the one and end with the other and show what is required.
 use crate::orders::OrderAnswer;
 use crate::orders::read_order;
 use crate::orders::trace_part;

@@ -103,9 +103,13 @@ fitting room x = weigh (leb (length (x .buckets)) room) 6 (figures x)
 abbrev pub readPlan : ℕ → List ℕ → Answer Recorded
 readPlan room bs = andThen (planIn bs) (fitting room)
 
+-- T, the number of buckets and the cost of what a file holds.
+abbrev pub figuresIn : Recorded → PlanFigures
+figuresIn x = record { periods = x .periods; buckets = length (x .buckets); cost = x .cost }
+
 -- The figures that are answered, and the records that fill the list.
 abbrev pub recordedFigures : Answer Recorded → Answer PlanFigures
-recordedFigures = onFigures (λ x. record { periods = x .periods; buckets = length (x .buckets); cost = x .cost })
+recordedFigures = onFigures figuresIn
 
 abbrev pub bucketsOf : Answer Recorded → Answer Cutting
 bucketsOf = onFigures (λ x. x .buckets)
@@ -136,5 +140,5 @@ writePlan room x list = planFile (length list) room x (take (x .buckets) list)
 
 -- A file that is read is the very file that writing those figures and records gives (00, demand 2).
 abbrev pub VeryPlan : List ℕ → Answer Recorded → Type 0
-VeryPlan bs (figures x) = writePlan (length bs) (record { periods = x .periods; buckets = length (x .buckets); cost = x .cost }) (x .buckets) ≡ figures bs
+VeryPlan bs (figures x) = writePlan (length bs) (figuresIn x) (x .buckets) ≡ figures bs
 VeryPlan bs (refused n) = Unit {0}

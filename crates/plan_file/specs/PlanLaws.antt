@@ -19,7 +19,7 @@ use Rattle.encoding.specs.NumberLaws.{Within, Bytes, numbers-written, numbers-r
 use Rattle.encoding.specs.Header.{Placed}
 use Rattle.record_list.specs.ListLaws.{noRecord}
 use Rattle.plan_file.specs.RecordLaws.{RecordsRange, records-ok}
-use Rattle.plan_file.specs.Plan.{Recorded, costOffset, bucketsOffset, planLength, planWords, planBytes, recordBytes, recordAt, recordsIn, planIn, readPlan, planFile, writePlan, VeryPlan}
+use Rattle.plan_file.specs.Plan.{Recorded, figuresIn, costOffset, bucketsOffset, planLength, planWords, planBytes, recordBytes, recordAt, recordsIn, planIn, readPlan, planFile, writePlan, VeryPlan}
 use Rattle.plan_file.specs.PlanRules.{PlanRules, CountsRange, counts-ok, bucketsIn, recordedIn, rules-read, read-rules, read-fits, read-holds, write-figures, write-rules, length-head, length-record, length-plan}
 
 -- ---- One record
@@ -172,7 +172,7 @@ bytes-read bs h r =
 abbrev pub Writes : Recorded → List ℕ → Type 0
 Writes x bs =
     (list : Cutting) → take (length (x .buckets)) list ≡ x .buckets → length (x .buckets) ≤ length list
-    → (room : ℕ) → length bs ≤ room → writePlan room (record { periods = x .periods; buckets = length (x .buckets); cost = x .cost }) list ≡ figures bs
+    → (room : ℕ) → length bs ≤ room → writePlan room (figuresIn x) list ≡ figures bs
 
 rules-write : (bs : List ℕ) → Bytes bs → PlanRules bs → Writes (recordedIn bs) bs
 rules-write bs h r list same fits room l =

@@ -27,7 +27,7 @@ use Rattle.encoding.specs.StoreLaws.{sets-front}
 use Rattle.record_list.specs.ListLaws.{lists-kept, rooms}
 use Rattle.record_list.specs.Lists.{RecordLists, Filled, recorded, roomOf}
 use Rattle.plan_file.specs.RecordLaws.{RecordsRange, records-range, records-ok}
-use Rattle.plan_file.specs.Plan.{Recorded, planKind, costOffset, bucketsOffset, planLength, planBytes, countsOk, recordsOk, recordsIn, planIn, fitting, readPlan, recordedFigures, bucketsOf, planWords, recordBytes, planFile}
+use Rattle.plan_file.specs.Plan.{Recorded, figuresIn, planKind, costOffset, bucketsOffset, planLength, planBytes, countsOk, recordsOk, recordsIn, planIn, fitting, readPlan, recordedFigures, bucketsOf, planWords, recordBytes, planFile}
 
 -- T and k in their ranges, as orders of numbers.
 pub record CountsRange (T k : ℕ) : Type 0 where
@@ -146,7 +146,7 @@ pub record IsPlan (bs : List ℕ) (y : PlanFigures) : Type 0 where
 
 pub is-plan : (bs : List ℕ) (y : PlanFigures) → figures y ≡ recordedFigures (planIn bs) → IsPlan bs y
 is-plan bs y e =
-    let f = on-figures (λ x. record { periods = x .periods; buckets = length (x .buckets); cost = x .cost }) (planIn bs) (sym e) in
+    let f = on-figures figuresIn (planIn bs) (sym e) in
     let r = read-rules bs (f .0) (f .1) in
     let n : numberAt 4 bs 8 ≡ y .buckets =
     sym (length-items _ 12 (numberAt 4 bs 8) bucketsOffset) ∙ ap (λ (x : Recorded). length (x .buckets)) (sym (r .1)) ∙ ap (λ (z : PlanFigures). z .buckets) (f .2) in
@@ -155,17 +155,17 @@ is-plan bs y e =
 -- It has no more buckets than the longest trace has periods.
 pub plan-few : (bs : List ℕ) (y : PlanFigures) → figures y ≡ recordedFigures (planIn bs) → y .buckets ≤ traceLimit
 plan-few bs y e =
-    let f = on-figures (λ x. record { periods = x .periods; buckets = length (x .buckets); cost = x .cost }) (planIn bs) (sym e) in
+    let f = on-figures figuresIn (planIn bs) (sym e) in
     let c = read-rules bs (f .0) (f .1) .0 .counts in
     omega (arith, is-plan bs y e .is-count, c .few, c .periods .few)
 
--- A plan that is read fits a list that has room for its records.
 -- What reading into a list gives is what the file holds.
 pub read-holds : (room : ℕ) (bs : List ℕ) (x : Recorded) → readPlan room bs ≡ figures x → planIn bs ≡ figures x
 read-holds room bs x e =
     let f = then-found (planIn bs) (fitting room) e in
     f .1 ∙ weigh-figures (leb (length (f .0 .buckets)) room) 6 (figures (f .0)) (f .2) .1
 
+-- A plan that is read fits a list that has room for its records.
 pub read-fits : (room : ℕ) (bs : List ℕ) (x : Recorded) → planIn bs ≡ figures x → length (x .buckets) ≤ room → readPlan room bs ≡ figures x
 read-fits room bs x e l = sym (then-figures (planIn bs) (fitting room) e) ∙ ap (λ (ok : Bool). weigh ok 6 (figures x)) (le-leb _ _ l)
 

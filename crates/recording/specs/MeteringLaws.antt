@@ -114,10 +114,10 @@ module _ (f : Factor) (ds runs rates depths : List ℕ) (k : ℕ) where
         metered-next m g o =
             record {
               few = record {
-                sents = omega (arith, s .few .sents, o .counts .sents);
-                overs = omega (arith, s .few .overs, o .counts .overs);
-                losts = omega (arith, s .few .losts, o .counts .losts);
-                helds = omega (arith, s .few .helds, o .counts .holds, o .fresh .bucket .depths);
+                sents = omega (arith, s .few .sents, o .totals .sents);
+                overs = omega (arith, s .few .overs, o .totals .overs);
+                losts = omega (arith, s .few .losts, o .totals .losts);
+                helds = omega (arith, s .few .helds, o .totals .holds, o .fresh .bucket .depths);
               };
               begins = next-begins runs rates depths k ds start i (s .begins) l;
               is =

@@ -25,7 +25,7 @@ use Rattle.meter.specs.declared.meters.Meter.{Meter}
 use Rattle.meter.specs.Meter.{meterOn}
 use Rattle.meter.specs.MeterRuns.{run-metered}
 use Rattle.plan_file.specs.declared.plans.PlanFigures.{PlanFigures}
-use Rattle.plan_file.specs.Plan.{Recorded, planFile, readPlan, recordedFigures, bucketsOf}
+use Rattle.plan_file.specs.Plan.{Recorded, figuresIn, planFile, readPlan, recordedFigures, bucketsOf}
 use Rattle.plan_file.specs.PlanLaws.{file-read}
 use Rattle.plan_file.specs.PlanRules.{CountsRange, WriteRules, write-rules}
 use Rattle.record_list.specs.ListLaws.{lists-hold, lists-kept, noRecord, room-kept}
@@ -116,7 +116,7 @@ module _ (x : PlanFigures) (f : Factor) (ds : List ℕ) (room : ℕ) (xs : Cutti
         read-taken m g = figures-refused (sym (g ∙ ap recordedFigures reads-front))
 
         module _ (y : PlanFigures) (g : figures y ≡ recordedFigures (readPlan space front)) (back′ : RecordLists) (k : Filled (bucketsOf (readPlan space front)) back back′) where
-          y-is : y ≡ record { periods = x .periods; buckets = length xs; cost = x .cost }
+          y-is : y ≡ figuresIn plan
           y-is = same-figures (g ∙ ap recordedFigures reads-front)
 
           same-count : y .buckets ≡ length xs

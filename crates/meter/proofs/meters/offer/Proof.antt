@@ -31,10 +31,10 @@ in-order c = check-passed (c .before .record-in-order .ensures) (c .if1 .left)
 step-requires : tie.Need-step-requires
 step-requires c κs =
     let k = meter-sound _ (in-order (c .before)) in
-    (k .fresh .bucket, omega (arith, k .counts .holds, k .fresh .bucket .depths))
+    (k .fresh .bucket, omega (arith, k .totals .holds, k .fresh .bucket .depths))
 
 counted-requires : tie.Need-counted-requires
-counted-requires c κs = meter-sound _ (in-order (c .before .before)) .counts
+counted-requires c κs = meter-sound _ (in-order (c .before .before)) .totals
 
 -- the next record has one period more
 one-more : (c : tie.After-counted) → c .counted .result .periods ≡ c .before .before .before .before .before .args .meter .periods + 1

@@ -1,5 +1,6 @@
 -- Each byte from the start on is compared at most once.
-use Prim.Native.Nat.{_-_, _≤_}
+use Prim.Native.Nat.{_+_, _-_, _≤_}
+use Rattle.plan_file.specs.Plan.{longestPlan}
 use borrow.Author.Needs.{needs}
 use Rattle.samples.proofs.file_bytes.is_lent.Statement.{statement}
 use Rattle.samples.proofs.file_bytes.is_lent.Tie as tie
@@ -8,7 +9,7 @@ abbrev Inv-loop : tie.InvT-loop
 Inv-loop bytes start i₀ i = start ≤ i
 
 abbrev μ-loop : tie.MeasureT-loop
-μ-loop bytes start i₀ i = 6184 - i
+μ-loop bytes start i₀ i = longestPlan + 8 - i
 
 loop-holds : tie.Need-loop-holds Inv-loop μ-loop
 loop-holds c = search needs
