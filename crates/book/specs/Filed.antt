@@ -12,8 +12,8 @@ use Rattle.recording.specs.declared.plans.Booking.{Booking}
 use Rattle.booking.specs.Booking.{Lent}
 use Rattle.booking.specs.Claim.{Demand3, Claim}
 
--- The claim holds of these bytes and of lists of 512 entries, as many as the longest trace has periods; and demand 3 outright, for
--- every order that is read.
+-- The claim holds of these bytes and of lists of 512 entries, as many as the longest trace has periods; and demand 3
+-- outright, for every order that is read.
 pub record BooksFile (bs bytes bytes′ : List ℕ) (answer : Answer Booking) : Type 0 where
   pub before : Lent
   pub after : Lent

@@ -50,8 +50,8 @@ pub record BooksLists (bs : List ℕ) (z : Sizes) (old new : ListsLent) (answer 
 lent-by : {a a′ : List ℕ} {b b′ : Cutting} {c c′ : List ℕ} {d d′ : Cutting} → a ≡ a′ → b ≡ b′ → c ≡ c′ → d ≡ d′ → lent a b c d ≡ lent a′ b′ c′ d′
 lent-by e f g h = rw (e, f, g, h)
 
--- The calls are made on a list of the booking's own, `own`, with as many entries as the lent demands but no more than 512. What they
--- give is what they give on the lent demands.
+-- The calls are made on a list of the booking's own, `own`, with as many entries as the lent demands but no more than
+-- 512. What they give is what they give on the lent demands.
 module _ (bs : List ℕ) (h : Bytes bs) (room space : ℕ) (old called : ListsLent) (own : List ℕ) (size : length own ≡ min (length (old .demands)) traceLimit)
     (answer : Answer Booking) (c : Called bs (sizes (length own) room (length (old .bytes)) space) (lentLists own (old .plan) (old .bytes) (old .back)) called answer) where
   abbrev z : Sizes

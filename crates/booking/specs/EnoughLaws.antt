@@ -1,5 +1,5 @@
--- Lists of 512 entries and bytes for the longest plan are as long as any order needs. So demand 3 stands outright of whoever lends
--- these.
+-- Lists of 512 entries and bytes for the longest plan are as long as any order needs. So demand 3 stands outright of
+-- whoever lends these.
 -- Assumes nothing.
 use Prim.Native.Nat.{ℕ, _≤_}
 use native.Mathlib.Omega.{arith}

@@ -123,7 +123,8 @@ writeOrder room t ds =
 
 -- ---- There and back
 
--- A file that is read is the very file that writing those figures, and the demands of its trace's part, gives (00, demand 2).
+-- A file that is read is the very file that writing those figures, and the demands of its trace's part, gives (00,
+-- demand 2).
 abbrev pub VeryOrder : List ℕ → Answer Order → Type 0
 VeryOrder bs (figures o) = writeOrder (length bs) (o .tariff) (demandsIn (tracePart bs)) ≡ figures bs
 VeryOrder bs (refused n) = Unit {0}

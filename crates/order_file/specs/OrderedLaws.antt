@@ -59,7 +59,8 @@ module _ {space : ℕ} {bs : List ℕ} {x : Ordered} (p : IsOrdered space bs x) 
 
 -- ---- With another number of entries
 
--- 512 entries are enough for any order. So what these give another number gives too where it is T or more, and 6 where it is less.
+-- 512 entries are enough for any order. So what these give another number gives too where it is T or more, and 6 where
+-- it is less.
 module _ (bs : List ℕ) where
   pub ordered-refused : (space n : ℕ) → ordered traceLimit bs ≡ refused n → ordered space bs ≡ refused n
   ordered-refused space n e = go (readOrder bs) refl

@@ -29,8 +29,8 @@ use Rattle.planning.specs.PlannedLaws.{IsPlanned, is-planned}
 abbrev pub withOrder : Order → Plan → PlannedOrder
 withOrder o x = record { order = o; plan = x }
 
--- What planning answers for a list of `room` records, and what the list of demands and the lists of figures then hold: after a
--- refusal what they held.
+-- What planning answers for a list of `room` records, and what the list of demands and the lists of figures then hold:
+-- after a refusal what they held.
 pub record PlansOrder (bs demands : List ℕ) (room : ℕ) (plan : RecordLists) (demands′ : List ℕ) (plan′ : RecordLists) (answer : Answer PlannedOrder) : Type 0 where
   pub answers : answer ≡ onFigures plannedFigures (planned (length demands) room bs)
   pub spreads : demands′ ≡ filled (plannedDemands (planned (length demands) room bs)) demands

@@ -24,8 +24,8 @@ pub record Recording : Type 0 where
   pub plan : Recorded
   pub meters : List Meter
 
--- The plan is written; `file` is what writing it gives. That a meter can be opened with the factor, and that the records can be read
--- back into `space` entries, is weighed first, so that a refusal comes before anything is written.
+-- The plan is written; `file` is what writing it gives. That a meter can be opened with the factor, and that the
+-- records can be read back into `space` entries, is weighed first, so that a refusal comes before anything is written.
 abbrev pub written : ℕ → Factor → PlanFigures → Answer (List ℕ) → Answer (List ℕ)
 written space f x file = weigh (factorOk f) 5 (weigh (leb (x .buckets) space) 6 file)
 

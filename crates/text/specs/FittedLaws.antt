@@ -1,5 +1,5 @@
--- A text that fits its room fills the front of what is lent; another is refused. A text whose length is not known beforehand
--- stands ready in an array of its own in between.
+-- A text that fits its room fills the front of what is lent; another is refused. A text whose length is not known
+-- beforehand stands ready in an array of its own in between.
 -- Assumes nothing.
 use Prim.Native.Nat.{ℕ, _≤_, _<_}
 use native.Mathlib.Omega.{arith}

@@ -27,8 +27,8 @@ pushed limit v b = let n = appended v b in cond (leb n limit) (some n) none
 abbrev pub numberLimit : ℕ
 numberLimit = 4294967295
 
--- The number that digits stand for behind those of v. 5 (01, "Refusals by number": a figure breaks its rule): a byte that
--- is no digit, or a number above 32 bits.
+-- The number that digits stand for behind those of v. 5 (01, "Refusals by number": a figure breaks its rule): a byte
+-- that is no digit, or a number above 32 bits.
 unfoldable pub numberFrom : ℕ → List ℕ → Answer ℕ
 numberFrom v [] = figures v
 numberFrom v (b ∷ bs) = weigh (isDigit b) 5 (weigh (leb (appended v b) numberLimit) 5 (numberFrom (appended v b) bs))

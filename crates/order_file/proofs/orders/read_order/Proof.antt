@@ -1,4 +1,5 @@
--- Each refusal is the first rule that its test finds broken; past the tests the figures are those of the bytes, which they give again.
+-- Each refusal is the first rule that its test finds broken; past the tests the figures are those of the bytes, which
+-- they give again.
 use Prim.Native.Nat.{ℕ}
 use native.Mathlib.Omega.{arith}
 use mathlib.Core.Path.{_≡_, sym, ap, _∙_}

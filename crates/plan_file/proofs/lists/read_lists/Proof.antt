@@ -1,4 +1,5 @@
--- A refusal of the file or of the room leaves the lists; past both the records are stored, which are at most 512. What is read is written as those bytes.
+-- A refusal of the file or of the room leaves the lists; past both the records are stored, which are at most 512. What
+-- is read is written as those bytes.
 use Prim.Native.Nat.{_≤_}
 use native.Mathlib.Nat.{le-trans}
 use native.Mathlib.Omega.{arith}

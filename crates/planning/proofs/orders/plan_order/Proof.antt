@@ -1,4 +1,5 @@
--- The series is planned on the numbers spread, which are as many as the order says; they are stored once a plan is found.
+-- The series is planned on the numbers spread, which are as many as the order says; they are stored once a plan is
+-- found.
 use Prim.Native.Nat.{ℕ, _≤_}
 use native.Mathlib.Omega.{arith}
 use mathlib.Core.Path.{_≡_, sym, ap}

@@ -1,5 +1,5 @@
--- Each call is made with what those before it gave. What was written is read back, so reading refuses nothing; the records read make up
--- the trace, and no meter refuses, since the factor was weighed before anything was written.
+-- Each call is made with what those before it gave. What was written is read back, so reading refuses nothing; the
+-- records read make up the trace, and no meter refuses, since the factor was weighed before anything was written.
 use Prim.Native.Nat.{ℕ}
 use native.Mathlib.Omega.{arith}
 use mathlib.Core.Path.{_≡_, sym, ap, _∙_}
