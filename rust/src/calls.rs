@@ -1,18 +1,32 @@
-//! The nine calls of the proved product (crates/exports). A call that ends in `_into` fills what the caller lends; the
-//! one without it lends as much as any answer needs. Nothing checks the declarations below against the Rattle source.
+//! The calls of the proved product (crates/exports) for programs in Rust, with nothing of this package but this file. A
+//! call that ends in `_into` fills what the caller lends; the one without it lends as much as any answer needs. A rate
+//! and a depth are types of their own. `tests/header` compares the declarations below with the Rattle source.
 
 #![allow(unsafe_code)]
 
-use crate::paper::terms::{Bucket, Plan, Record, Tariff, PERIODS_MAX};
-use crate::paper::Answer;
+/// The figures, or the number of the refusal.
+pub type Answer<T> = Result<T, u32>;
+
+/// Tokens gained in each period.
+#[repr(transparent)]
+#[derive(Clone, Copy, Debug, Default, PartialEq, Eq)]
+pub struct Rate(pub u32);
+
+/// Tokens that a bucket holds at the most from one period to the next.
+#[repr(transparent)]
+#[derive(Clone, Copy, Debug, Default, PartialEq, Eq)]
+pub struct Depth(pub u32);
 
 /// The product answers its figure, or this and the number of a refusal.
 const REFUSED: u64 = 1_000_000_000_000_000_000;
 
-const ORDER_MAX: usize = 48 + 2 * PERIODS_MAX;
-const PLAN_MAX: usize = 32 + 12 * PERIODS_MAX;
-const LINE_MAX: usize = 40;
-const SHEET_MAX: usize = 29 + 32 * PERIODS_MAX;
+// Room for any order, and for the longest answers.
+const TRACE_LIMIT: usize = 512;
+const LONGEST_ORDER: usize = 1_072;
+const LONGEST_PLAN: usize = 6_176;
+const LONGEST_SHEET: usize = 16_413;
+const LONGEST_SINGLE: usize = 37;
+const LONGEST_TRIAL: usize = 40;
 
 // A slice goes over as a pointer and a length. The product reads and writes inside it alone, and keeps neither.
 extern "C" {
@@ -24,26 +38,36 @@ extern "C" {
         bytes: *mut u8,
         bytes_len: usize,
     ) -> u64;
-    fn metqoraz_depth(order: *const u8, order_len: usize, rate: u32) -> u64;
-    fn metqoraz_single(order: *const u8, order_len: usize, text: *mut u8, text_len: usize) -> u64;
-    fn metqoraz_trial(order: *const u8, order_len: usize, rate: u32, depth: u32, text: *mut u8, text_len: usize)
-        -> u64;
+    fn metqoraz_depth(order: *const u8, order_len: usize, rate: Rate) -> u64;
+    fn metqoraz_single(order: *const u8, order_len: usize, rate: *mut Rate, depth: *mut Depth) -> u64;
+    fn metqoraz_single_line(order: *const u8, order_len: usize, text: *mut u8, text_len: usize) -> u64;
+    fn metqoraz_trial(order: *const u8, order_len: usize, rate: Rate, depth: Depth, spare: *mut i64) -> u64;
+    fn metqoraz_trial_line(
+        order: *const u8,
+        order_len: usize,
+        rate: Rate,
+        depth: Depth,
+        text: *mut u8,
+        text_len: usize,
+    ) -> u64;
     fn metqoraz_series(order: *const u8, order_len: usize) -> u64;
     fn metqoraz_book(order: *const u8, order_len: usize, plan: *mut u8, plan_len: usize) -> u64;
     fn metqoraz_sheet(order: *const u8, order_len: usize, text: *mut u8, text_len: usize) -> u64;
     fn metqoraz_plan(
         plan: *const u8,
         plan_len: usize,
+        periods: *mut u32,
+        buckets: *mut u32,
         runs: *mut u32,
         runs_len: usize,
-        rates: *mut u32,
+        rates: *mut Rate,
         rates_len: usize,
-        depths: *mut u32,
+        depths: *mut Depth,
         depths_len: usize,
     ) -> u64;
     fn metqoraz_meter(
-        rate: u32,
-        depth: u32,
+        rate: Rate,
+        depth: Depth,
         p: u32,
         q: u32,
         offers: *const u16,
@@ -94,38 +118,78 @@ pub fn order_into(figures: &[u32], demands: &[u16], bytes: &mut [u8]) -> Answer<
     })
 }
 
-/// The order file of a tariff and demands.
-pub fn order(tariff: &Tariff, demands: &[u16]) -> Answer<Vec<u8>> {
-    filled(ORDER_MAX, |bytes| order_into(&tariff.figures(), demands, bytes))
+/// The order file of a tariff's seven figures and demands.
+pub fn order(figures: &[u32; 7], demands: &[u16]) -> Answer<Vec<u8>> {
+    filled(LONGEST_ORDER, |bytes| order_into(figures, demands, bytes))
 }
 
 /// The smallest depth that carries an order's trace at a rate.
-pub fn depth(order: &[u8], rate: u32) -> Answer<u32> {
+pub fn depth(order: &[u8], rate: Rate) -> Answer<Depth> {
     // SAFETY: as in `order_into`.
-    answer(unsafe { metqoraz_depth(order.as_ptr(), order.len(), rate) }).map(|depth| depth as u32)
+    answer(unsafe { metqoraz_depth(order.as_ptr(), order.len(), rate) }).map(|depth| Depth(depth as u32))
+}
+
+/// A bucket and what it costs.
+#[derive(Clone, Copy, Debug, PartialEq, Eq)]
+pub struct Single {
+    pub rate: Rate,
+    pub depth: Depth,
+    pub cost: u64,
+}
+
+/// Puts the rate and the depth of the single bucket for an order into the numbers lent; answers its cost.
+pub fn single_into(order: &[u8], rate: &mut Rate, depth: &mut Depth) -> Answer<u64> {
+    // SAFETY: as in `order_into`; the numbers are borrowed apart from each other.
+    answer(unsafe { metqoraz_single(order.as_ptr(), order.len(), rate, depth) })
+}
+
+/// The single bucket for an order.
+pub fn single(order: &[u8]) -> Answer<Single> {
+    let (mut rate, mut depth) = (Rate::default(), Depth::default());
+    let cost = single_into(order, &mut rate, &mut depth)?;
+    Ok(Single { rate, depth, cost })
 }
 
 /// Writes the line of the single bucket for an order; answers its length.
-pub fn single_into(order: &[u8], text: &mut [u8]) -> Answer<usize> {
+pub fn single_line_into(order: &[u8], text: &mut [u8]) -> Answer<usize> {
     // SAFETY: as in `order_into`.
-    length(unsafe { metqoraz_single(order.as_ptr(), order.len(), text.as_mut_ptr(), text.len()) })
+    length(unsafe { metqoraz_single_line(order.as_ptr(), order.len(), text.as_mut_ptr(), text.len()) })
 }
 
 /// The line of the single bucket for an order.
-pub fn single(order: &[u8]) -> Answer<String> {
-    printed(LINE_MAX, |text| single_into(order, text))
+pub fn single_line(order: &[u8]) -> Answer<String> {
+    printed(LONGEST_SINGLE, |text| single_line_into(order, text))
+}
+
+/// The least tokens to spare over the periods, below 0 where some are missing, and all that the provider discards.
+#[derive(Clone, Copy, Debug, PartialEq, Eq)]
+pub struct Trial {
+    pub spare: i64,
+    pub over: u64,
+}
+
+/// Puts the spare of a trial of a bucket on an order's trace into the number lent; answers what is discarded.
+pub fn trial_into(order: &[u8], rate: Rate, depth: Depth, spare: &mut i64) -> Answer<u64> {
+    // SAFETY: as in `order_into`.
+    answer(unsafe { metqoraz_trial(order.as_ptr(), order.len(), rate, depth, spare) })
+}
+
+/// The trial of a bucket on an order's trace.
+pub fn trial(order: &[u8], rate: Rate, depth: Depth) -> Answer<Trial> {
+    let mut spare = 0;
+    let over = trial_into(order, rate, depth, &mut spare)?;
+    Ok(Trial { spare, over })
 }
 
 /// Writes the line of a trial of a bucket on an order's trace; answers its length.
-pub fn trial_into(order: &[u8], bucket: Bucket, text: &mut [u8]) -> Answer<usize> {
-    let Bucket { rate, depth } = bucket;
+pub fn trial_line_into(order: &[u8], rate: Rate, depth: Depth, text: &mut [u8]) -> Answer<usize> {
     // SAFETY: as in `order_into`.
-    length(unsafe { metqoraz_trial(order.as_ptr(), order.len(), rate, depth, text.as_mut_ptr(), text.len()) })
+    length(unsafe { metqoraz_trial_line(order.as_ptr(), order.len(), rate, depth, text.as_mut_ptr(), text.len()) })
 }
 
 /// The line of a trial of a bucket on an order's trace.
-pub fn trial(order: &[u8], bucket: Bucket) -> Answer<String> {
-    printed(LINE_MAX, |text| trial_into(order, bucket, text))
+pub fn trial_line(order: &[u8], rate: Rate, depth: Depth) -> Answer<String> {
+    printed(LONGEST_TRIAL, |text| trial_line_into(order, rate, depth, text))
 }
 
 /// The cost of the cheapest plan for an order.
@@ -142,7 +206,7 @@ pub fn book_into(order: &[u8], plan: &mut [u8]) -> Answer<usize> {
 
 /// The file of the cheapest plan for an order.
 pub fn book(order: &[u8]) -> Answer<Vec<u8>> {
-    filled(PLAN_MAX, |plan| book_into(order, plan))
+    filled(LONGEST_PLAN, |plan| book_into(order, plan))
 }
 
 /// Writes the sheet of an order; answers its length.
@@ -153,16 +217,32 @@ pub fn sheet_into(order: &[u8], text: &mut [u8]) -> Answer<usize> {
 
 /// The sheet of an order.
 pub fn sheet(order: &[u8]) -> Answer<String> {
-    printed(SHEET_MAX, |text| sheet_into(order, text))
+    printed(LONGEST_SHEET, |text| sheet_into(order, text))
 }
 
-/// Reads a plan file: run lengths, rates and depths into the fronts of three lists; answers its cost.
-pub fn plan_into(plan: &[u8], runs: &mut [u32], rates: &mut [u32], depths: &mut [u32]) -> Answer<u64> {
-    // SAFETY: as in `order_into`; the three lists are borrowed apart from each other.
+/// What a plan file says beside its records.
+#[derive(Clone, Copy, Debug, Default, PartialEq, Eq)]
+pub struct PlanFigures {
+    pub periods: u32,
+    pub buckets: u32,
+}
+
+/// Reads a plan file: its periods and its number of buckets into the figures; run lengths, rates and depths into the
+/// fronts of three lists; answers its cost.
+pub fn plan_into(
+    plan: &[u8],
+    figures: &mut PlanFigures,
+    runs: &mut [u32],
+    rates: &mut [Rate],
+    depths: &mut [Depth],
+) -> Answer<u64> {
+    // SAFETY: as in `order_into`; the numbers and the lists are borrowed apart from each other.
     answer(unsafe {
         metqoraz_plan(
             plan.as_ptr(),
             plan.len(),
+            &mut figures.periods,
+            &mut figures.buckets,
             runs.as_mut_ptr(),
             runs.len(),
             rates.as_mut_ptr(),
@@ -173,13 +253,31 @@ pub fn plan_into(plan: &[u8], runs: &mut [u32], rates: &mut [u32], depths: &mut 
     })
 }
 
-/// The plan in a file. A run has at least one period, so the first run of none is behind the last record.
+/// One run of a plan: its length in periods and its bucket.
+#[derive(Clone, Copy, Debug, PartialEq, Eq)]
+pub struct Record {
+    pub periods: u32,
+    pub rate: Rate,
+    pub depth: Depth,
+}
+
+/// A plan file's periods, cost and records.
+#[derive(Clone, Debug, PartialEq, Eq)]
+pub struct Plan {
+    pub periods: u32,
+    pub cost: u64,
+    pub records: Vec<Record>,
+}
+
+/// The plan in a file.
 pub fn plan(file: &[u8]) -> Answer<Plan> {
-    let [mut runs, mut rates, mut depths] = [[0; PERIODS_MAX]; 3];
-    let cost = plan_into(file, &mut runs, &mut rates, &mut depths)?;
-    let figures = runs.into_iter().zip(rates).zip(depths);
-    let records = figures.map(|((periods, rate), depth)| Record { periods, bucket: Bucket { rate, depth } });
-    Ok(Plan { cost, records: records.take_while(|record| record.periods > 0).collect() })
+    let mut figures = PlanFigures::default();
+    let (mut runs, mut rates) = ([0; TRACE_LIMIT], [Rate::default(); TRACE_LIMIT]);
+    let mut depths = [Depth::default(); TRACE_LIMIT];
+    let cost = plan_into(file, &mut figures, &mut runs, &mut rates, &mut depths)?;
+    let all = runs.into_iter().zip(rates).zip(depths);
+    let records = all.map(|((periods, rate), depth)| Record { periods, rate, depth });
+    Ok(Plan { periods: figures.periods, cost, records: records.take(figures.buckets as usize).collect() })
 }
 
 /// What a meter holds and has counted.
@@ -194,8 +292,7 @@ pub struct Totals {
 
 /// Opens a meter and offers it a list: tokens held, periods, sent, over and lost into the front of the totals; answers
 /// the periods.
-pub fn meter_into(bucket: Bucket, p: u32, q: u32, offers: &[u16], totals: &mut [u64]) -> Answer<u64> {
-    let Bucket { rate, depth } = bucket;
+pub fn meter_into(rate: Rate, depth: Depth, (p, q): (u32, u32), offers: &[u16], totals: &mut [u64]) -> Answer<u64> {
     // SAFETY: as in `order_into`.
     answer(unsafe {
         metqoraz_meter(rate, depth, p, q, offers.as_ptr(), offers.len(), totals.as_mut_ptr(), totals.len())
@@ -203,9 +300,9 @@ pub fn meter_into(bucket: Bucket, p: u32, q: u32, offers: &[u16], totals: &mut [
 }
 
 /// What a meter has counted after a list of offers.
-pub fn meter(bucket: Bucket, p: u32, q: u32, offers: &[u16]) -> Answer<Totals> {
+pub fn meter(rate: Rate, depth: Depth, factor: (u32, u32), offers: &[u16]) -> Answer<Totals> {
     let mut totals = [0; 5];
-    meter_into(bucket, p, q, offers, &mut totals)?;
+    meter_into(rate, depth, factor, offers, &mut totals)?;
     let [tokens, periods, sent, over, lost] = totals;
     Ok(Totals { tokens, periods, sent, over, lost })
 }

@@ -3,7 +3,7 @@
 
 mod shared;
 
-use metqoraz::calls;
+use metqoraz::calls::{self, Depth, Rate};
 use metqoraz::inputs::{any_tariff, bucket, damaged, Seed};
 use metqoraz::paper::depth::depth_at;
 use metqoraz::paper::order::{read_order, trace_of};
@@ -23,10 +23,12 @@ fn booked(file: &[u8]) -> Answer<Vec<u8>> {
 fn compare_all(file: &[u8], seed: &mut Seed) {
     let (tried, rate) = (bucket(seed), seed.between(0, 10));
     let room = seed.between(0, 120) as usize;
-    same(&calls::depth(file, rate), &on_order(file, |trace, tariff| depth_at(trace, rate, tariff)));
+    same(&calls::depth(file, Rate(rate)), &on_order(file, |trace, tariff| depth_at(trace, rate, tariff)).map(Depth));
     same(&calls::series(file), &on_order(file, series_by_trying).map(|plan| plan.cost));
-    compare_in(room, &said(&trial_line(file, tried)), seed, |text| calls::trial_into(file, tried, text));
-    compare_in(room, &said(&single_line(file)), seed, |text| calls::single_into(file, text));
+    compare_in(room, &said(&trial_line(file, tried)), seed, |text| {
+        calls::trial_line_into(file, Rate(tried.rate), Depth(tried.depth), text)
+    });
+    compare_in(room, &said(&single_line(file)), seed, |text| calls::single_line_into(file, text));
     compare_in(room, &said(&sheet(file)), seed, |text| calls::sheet_into(file, text));
     compare_in(room, &booked(file), seed, |plan| calls::book_into(file, plan));
 }

@@ -2,7 +2,7 @@
 
 mod shared;
 
-use metqoraz::calls::{self, Totals};
+use metqoraz::calls::{self, Depth, Rate, Totals};
 use metqoraz::inputs::{bucket, Seed};
 use metqoraz::paper::meter::{offer, open, Meter};
 use metqoraz::paper::terms::Bucket;
@@ -25,11 +25,11 @@ fn totals_of(meter: &Meter) -> [u64; 5] {
     [meter.tokens, meter.periods, meter.sent, meter.over, meter.lost]
 }
 
-fn compare_meter(bucket: Bucket, (p, q): (u32, u32), offers: &[u16], room: usize, seed: &mut Seed) -> Answer<Meter> {
+fn compare_meter(bucket: Bucket, factor: (u32, u32), offers: &[u16], room: usize, seed: &mut Seed) -> Answer<Meter> {
     let before = lent(room, seed, |bits| bits);
     let mut totals = before.clone();
-    let answer = calls::meter_into(bucket, p, q, offers, &mut totals);
-    let right = metered(bucket, p, q, offers, room);
+    let answer = calls::meter_into(Rate(bucket.rate), Depth(bucket.depth), factor, offers, &mut totals);
+    let right = metered(bucket, factor.0, factor.1, offers, room);
     let front = right.as_ref().map_or(Vec::new(), |meter| totals_of(meter).to_vec());
     same(&(answer, totals), &(right.map(|meter| meter.periods), with_front(&before, &front)));
     right
@@ -83,7 +83,7 @@ fn a_meter_takes_a_million_periods() {
 #[test]
 fn the_lettered_meter() {
     let ended = Totals { tokens: 0, periods: 4, sent: 22, over: 1, lost: 0 };
-    assert_eq!(calls::meter(Bucket { rate: 5, depth: 4 }, 1, 2, &[4, 8, 2, 9]), Ok(ended), "J");
+    assert_eq!(calls::meter(Rate(5), Depth(4), (1, 2), &[4, 8, 2, 9]), Ok(ended), "J");
     let fresh = Totals { tokens: 2, periods: 0, sent: 0, over: 0, lost: 0 };
-    assert_eq!(calls::meter(Bucket { rate: 5, depth: 4 }, 1, 2, &[]), Ok(fresh));
+    assert_eq!(calls::meter(Rate(5), Depth(4), (1, 2), &[]), Ok(fresh));
 }

@@ -2,7 +2,7 @@
 
 mod shared;
 
-use metqoraz::calls;
+use metqoraz::calls::{self, Depth, Rate};
 use metqoraz::inputs::{any_tariff, trace, Seed, SHAPES};
 use metqoraz::paper::depth::{depth_at, depth_by_trying};
 use metqoraz::paper::order::{read_order, write_order};
@@ -31,7 +31,7 @@ fn orders_are_written_alike() {
     for_seeds(100_000, 30_000, |seed| {
         let (tariff, demands) = any_order(40, seed);
         compare_written(&tariff.figures(), &demands, seed).expect("the figures are in range");
-        same(&calls::order(&tariff, &demands), &write_order(&tariff, &demands));
+        same(&calls::order(&tariff.figures(), &demands), &write_order(&tariff, &demands));
     });
 }
 
@@ -65,7 +65,7 @@ fn any_number_of_figures_and_demands_is_weighed_alike() {
 
 fn compare_depth(file: &[u8], rate: u32) -> Answer<u32> {
     let right = on_order(file, |trace, tariff| depth_at(trace, rate, tariff));
-    same(&calls::depth(file, rate), &right);
+    same(&calls::depth(file, Rate(rate)), &right.map(Depth));
     right
 }
 
@@ -92,7 +92,7 @@ fn depths_are_those_found_by_trying() {
         let (tariff, demands) = small_order(12, seed);
         let file = file_of(&(tariff, demands.clone()));
         for rate in 0..=tariff.rate_cap + 1 {
-            same(&calls::depth(&file, rate), &depth_by_trying(&demands, rate, &tariff));
+            same(&calls::depth(&file, Rate(rate)), &depth_by_trying(&demands, rate, &tariff).map(Depth));
         }
     });
 }
@@ -104,8 +104,9 @@ fn depths_of_long_traces_are_alike() {
         let demands = any_trace(512, seed);
         let file = file_of(&(tariff, demands.clone()));
         let rate = any_rate(tariff.rate_cap, seed);
-        same(&calls::depth(&file, rate), &depth_at(&demands, rate, &tariff));
-        same(&calls::depth(&file, rate), &depth_by_walk(&demands, rate, &tariff));
+        let depth = calls::depth(&file, Rate(rate));
+        same(&depth, &depth_at(&demands, rate, &tariff).map(Depth));
+        same(&depth, &depth_by_walk(&demands, rate, &tariff).map(Depth));
     });
 }
 

@@ -2,7 +2,7 @@
 
 mod shared;
 
-use metqoraz::calls;
+use metqoraz::calls::{self, Depth, PlanFigures, Rate};
 use metqoraz::inputs::{corner_tariff, damaged, random_tariff, trace, Seed, Shape, SHAPES};
 use metqoraz::paper::order::{read_order, trace_of};
 use metqoraz::paper::plan::{read_plan, write_plan};
@@ -21,6 +21,23 @@ fn booked(file: &[u8]) -> Answer<Vec<u8>> {
     write_plan(periods, &series(&trace, &tariff, trace.len())?)
 }
 
+/// A plan of the paper's as the product hands one back.
+fn handed_back(periods: u32, plan: &Plan) -> calls::Plan {
+    let record =
+        |x: &Record| calls::Record { periods: x.periods, rate: Rate(x.bucket.rate), depth: Depth(x.bucket.depth) };
+    calls::Plan { periods, cost: plan.cost, records: plan.records.iter().map(record).collect() }
+}
+
+/// The plan in the file that is booked for an order.
+fn booked_plan(file: &[u8]) -> Answer<calls::Plan> {
+    calls::book(file).and_then(|plan| calls::plan(&plan))
+}
+
+/// The paper's plan for an order of so many periods.
+fn plan_of(demands: &[u16], plan: &Answer<Plan>) -> Answer<calls::Plan> {
+    plan.as_ref().map(|plan| handed_back(demands.len() as u32, plan)).map_err(|&number| number)
+}
+
 /// The cost alone.
 fn cost_of(plan: &Answer<Plan>) -> Answer<u64> {
     plan.as_ref().map(|plan| plan.cost).map_err(|&number| number)
@@ -29,9 +46,8 @@ fn cost_of(plan: &Answer<Plan>) -> Answer<u64> {
 fn compare_series(file: &[u8]) -> Answer<Plan> {
     let right = on_order(file, series_plain);
     same(&calls::series(file), &cost_of(&right));
-    let book = calls::book(file);
-    same(&book, &booked(file));
-    same(&book.and_then(|plan| calls::plan(&plan)), &right);
+    same(&calls::book(file), &booked(file));
+    same(&booked_plan(file), &plan_of(&trace_of(file), &right));
     right
 }
 
@@ -43,7 +59,7 @@ fn small_series_are_those_found_by_trying() {
         let file = file_of(&(tariff, demands.clone()));
         let tried = series_by_trying(&demands, &tariff);
         same(&calls::series(&file), &cost_of(&tried));
-        same(&calls::book(&file).and_then(|plan| calls::plan(&plan)), &tried);
+        same(&booked_plan(&file), &plan_of(&demands, &tried));
         tally.count(&tried);
     });
     tally.expect(&[0, 7], 10_000);
@@ -142,32 +158,41 @@ fn any_plan(seed: &mut Seed) -> (u32, Plan) {
     (periods, Plan { cost, records })
 }
 
-/// Three lists of the room given, or longer, and the plan read into their fronts.
+/// Three lists of the room given, or longer, the plan read into their fronts, and its two figures.
 fn compare_read(file: &[u8], room: usize, seed: &mut Seed) {
     let short = seed.place(3);
     let before: [Vec<u32>; 3] = [0, 1, 2].map(|list| {
         let entries = if list == short { room } else { room + seed.place(5) };
         lent(entries, seed, |bits| bits as u32)
     });
-    let [mut runs, mut rates, mut depths] = before.clone();
-    let answer = calls::plan_into(file, &mut runs, &mut rates, &mut depths);
-    let right = read_plan(file).and_then(|(_, plan)| if plan.records.len() > room { Err(LIST) } else { Ok(plan) });
-    let fronts: [Vec<u32>; 3] = match &right {
-        Err(_) => Default::default(),
-        Ok(plan) => [|x: &Record| x.periods, |x: &Record| x.bucket.rate, |x: &Record| x.bucket.depth]
-            .map(|figure| plan.records.iter().map(figure).collect()),
+    let held = PlanFigures { periods: seed.bits() as u32, buckets: seed.bits() as u32 };
+    let mut figures = held;
+    let [mut runs, rates, depths] = before.clone();
+    let mut rates: Vec<Rate> = rates.into_iter().map(Rate).collect();
+    let mut depths: Vec<Depth> = depths.into_iter().map(Depth).collect();
+    let answer = calls::plan_into(file, &mut figures, &mut runs, &mut rates, &mut depths);
+    let lists = [runs, rates.iter().map(|rate| rate.0).collect(), depths.iter().map(|depth| depth.0).collect()];
+    let fits = |plan: &(u32, Plan)| plan.1.records.len() <= room;
+    let right = read_plan(file).and_then(|plan| if fits(&plan) { Ok(plan) } else { Err(LIST) });
+    let (said, fronts): (_, [Vec<u32>; 3]) = match &right {
+        Err(_) => (held, Default::default()),
+        Ok((periods, plan)) => (
+            PlanFigures { periods: *periods, buckets: plan.records.len() as u32 },
+            [|x: &Record| x.periods, |x: &Record| x.bucket.rate, |x: &Record| x.bucket.depth]
+                .map(|figure| plan.records.iter().map(figure).collect()),
+        ),
     };
-    let [first, second, third] = [0, 1, 2].map(|list| with_front(&before[list], &fronts[list]));
-    same(&(answer, [runs, rates, depths]), &(right.map(|plan| plan.cost), [first, second, third]));
+    let filled = [0, 1, 2].map(|list| with_front(&before[list], &fronts[list]));
+    same(&(answer, figures, lists), &(right.map(|(_, plan)| plan.cost), said, filled));
 }
 
 fn compare_reads(file: &[u8], count: usize, seed: &mut Seed) -> Answer<Plan> {
     for room in [count, count + 1, count.saturating_sub(1), seed.place(count), 0, 512] {
         compare_read(file, room, seed);
     }
-    let right = read_plan(file).map(|(_, plan)| plan);
-    same(&calls::plan(file), &right);
-    right
+    let right = read_plan(file);
+    same(&calls::plan(file), &right.clone().map(|(periods, plan)| handed_back(periods, &plan)));
+    right.map(|(_, plan)| plan)
 }
 
 #[test]

@@ -1,14 +1,17 @@
-//! The product against the paper: the lines of trials and of single buckets, and the printed sheet.
+//! The product against the paper: trials and single buckets, as figures and as lines, and the printed sheet.
 
 mod shared;
 
-use metqoraz::calls;
+use metqoraz::calls::{self, Depth, Rate};
 use metqoraz::inputs::{bucket, Seed};
+use metqoraz::paper::bucket::trial;
 use metqoraz::paper::sheet::{sheet, single_line, trial_line};
+use metqoraz::paper::single::{single, Priced};
 use metqoraz::paper::terms::Bucket;
 use metqoraz::paper::Answer;
 use shared::{
-    any_file, any_order, any_trace, compare_filled, file_of, for_seeds, printed_case, said, same, small_order, Tally,
+    any_file, any_order, any_trace, compare_filled, file_of, for_seeds, on_order, printed_case, said, same,
+    small_order, Tally,
 };
 
 /// A text of the paper's against the product's, whole and in rooms of every size.
@@ -25,12 +28,28 @@ fn compare_text(
 }
 
 fn compare_trial(file: &[u8], bucket: Bucket, seed: &mut Seed) -> Answer<Vec<u8>> {
-    let whole = calls::trial(file, bucket);
-    compare_text(&trial_line(file, bucket), whole, seed, |text| calls::trial_into(file, bucket, text))
+    let (rate, depth) = (Rate(bucket.rate), Depth(bucket.depth));
+    let right = on_order(file, |trace, tariff| trial(bucket, tariff.p, tariff.q, trace));
+    let before = seed.bits() as i64;
+    let mut spare = before;
+    let over = calls::trial_into(file, rate, depth, &mut spare);
+    same(&(over, spare), &(right.map(|found| found.over), right.map_or(before, |found| found.spare)));
+    let line = calls::trial_line(file, rate, depth);
+    compare_text(&trial_line(file, bucket), line, seed, |text| calls::trial_line_into(file, rate, depth, text))
+}
+
+/// The cost and the bucket, in numbers that held something else before.
+fn compare_bucket(file: &[u8], right: Answer<Priced>, seed: &mut Seed) {
+    let before = (Rate(seed.bits() as u32), Depth(seed.bits() as u32));
+    let (mut rate, mut depth) = before;
+    let cost = calls::single_into(file, &mut rate, &mut depth);
+    let bucket = right.map_or(before, |found| (Rate(found.bucket.rate), Depth(found.bucket.depth)));
+    same(&(cost, (rate, depth)), &(right.map(|found| found.cost), bucket));
 }
 
 fn compare_single(file: &[u8], seed: &mut Seed) -> Answer<Vec<u8>> {
-    compare_text(&single_line(file), calls::single(file), seed, |text| calls::single_into(file, text))
+    compare_bucket(file, on_order(file, single), seed);
+    compare_text(&single_line(file), calls::single_line(file), seed, |text| calls::single_line_into(file, text))
 }
 
 #[test]
@@ -88,7 +107,7 @@ fn single_buckets_of_long_traces_are_alike() {
     for_seeds(2_700_000, 60, |seed| {
         let (tariff, _) = any_order(1, seed);
         let file = file_of(&(tariff, any_trace(512, seed)));
-        same(&calls::single(&file).map(String::into_bytes), &said(&single_line(&file)));
+        same(&calls::single_line(&file).map(String::into_bytes), &said(&single_line(&file)));
     });
 }
 
@@ -120,6 +139,8 @@ fn small_sheets_are_alike_in_every_room() {
 fn the_printed_case() {
     let order = file_of(&printed_case());
     assert_eq!(calls::sheet(&order).as_deref(), Ok("plan 3 2 40\n1 2 0.005 0.004 0.000\n3 3 0.000 0.004 0.000\n"));
-    assert_eq!(calls::single(&order).as_deref(), Ok("single 0.005 0.004 46\n"));
-    assert_eq!(calls::trial(&order, Bucket { rate: 5, depth: 3 }).as_deref(), Ok("trial -0.001 0.001\n"));
+    assert_eq!(calls::single_line(&order).as_deref(), Ok("single 0.005 0.004 46\n"));
+    assert_eq!(calls::single(&order), Ok(calls::Single { rate: Rate(5), depth: Depth(4), cost: 46 }));
+    assert_eq!(calls::trial_line(&order, Rate(5), Depth(3)).as_deref(), Ok("trial -0.001 0.001\n"));
+    assert_eq!(calls::trial(&order, Rate(5), Depth(3)), Ok(calls::Trial { spare: -1, over: 1 }));
 }

@@ -12,11 +12,10 @@ use Rattle.terms.specs.Limits.{traceLimit}
 use Rattle.terms.specs.Ranges.{freshOk, periodsOk}
 use Rattle.meter.specs.declared.meters.Meter.{Meter}
 use Rattle.meter.specs.Meter.{meterRun}
-use Rattle.depth.specs.Depth.{depthOf}
 use Rattle.series.specs.Series.{trueCost}
 use Rattle.order_file.specs.Order.{writeOrder}
-use Rattle.order_file.specs.Ordered.{ordered}
-use Rattle.plan_file.specs.Plan.{planFile}
+use Rattle.record_list.specs.Lists.{RecordLists, roomOf}
+use Rattle.plan_file.specs.Plan.{Recorded, planFile, readPlan}
 use Rattle.planning.specs.Planning.{planned}
 use Rattle.booking.specs.Booking.{planFigures}
 use Rattle.typed_figures.specs.Figures.{tariffFigures, tariffOf}
@@ -32,6 +31,11 @@ abbrev pub coded : Answer ℕ → ℕ
 coded (figures n) = n
 coded (refused n) = refusedFrom + n
 
+-- What a lent number holds after a call: the figure that is answered for it; on a refusal what it held.
+abbrev pub figureOr : {A : Type 0} → Answer A → A → A
+figureOr (figures x) old = x
+figureOr (refused n) old = old
+
 -- The starting factor p/q.
 abbrev pub factorOf : ℕ → ℕ → Factor
 factorOf p q = record { p = p; q = q }
@@ -43,10 +47,6 @@ factorOf p q = record { p = p; q = q }
 unfoldable pub orderFrom : ℕ → List ℕ → List ℕ → Answer (List ℕ)
 orderFrom room fs ds = weigh (periodsOk (length ds)) 3 (weigh (eqb (length fs) tariffFigures) 5 (writeOrder room (tariffOf fs) ds))
 
--- The depth for an order's demands at a rate (01, "Depth at a rate"): 1 to 5 as reading gives it, 5 for the rate, 7 for none.
-abbrev pub depthIn : ℕ → List ℕ → Answer ℕ
-depthIn r bs = andThen (ordered traceLimit bs) (λ x. depthOf (x .order .tariff) r (x .demands))
-
 -- ---- Plans
 
 -- The cost of the cheapest plan for an order (01, "Series"): 1 to 5 as reading gives it, 7 where there is none.
@@ -56,6 +56,11 @@ plannedCost bs = onFigures (λ x. trueCost (x .order .tariff) (x .cutting)) (pla
 -- The file of that plan in `room` bytes (01, "The two files"): the same, then 6.
 abbrev pub planFileIn : ℕ → List ℕ → Answer (List ℕ)
 planFileIn room bs = andThen (planned traceLimit traceLimit bs) (λ x. planFile traceLimit room (planFigures x) (x .cutting))
+
+-- A plan file read into three lists of the caller's (01, "The two files"): 1 to 5, then 6 for a list with fewer entries than
+-- buckets.
+abbrev pub readIn : List ℕ → RecordLists → Answer Recorded
+readIn bs l = readPlan (roomOf (l .runs) (l .rates) (l .depths)) bs
 
 -- ---- Meters
 

@@ -13,7 +13,7 @@ use lib.ListN.{length}
 use lib.Signed.{leZ}
 use Rattle.terms.specs.declared.Bucket.{Bucket}
 use Rattle.terms.specs.declared.Factor.{Factor}
-use Rattle.terms.specs.Answer.{Answer, figures, refused, onFigures}
+use Rattle.terms.specs.Answer.{Answer, figures, refused, onFigures, andThen}
 use Rattle.terms.specs.AnswerLaws.{same-figures, weigh-figures, on-figures, then-found}
 use Rattle.terms.specs.Limits.{demandLimit, depthLimit, meterLimit, rateLimit, traceLimit}
 use Rattle.terms.specs.Ranges.{freshOk, periodsOk, tariffOk}
@@ -27,7 +27,6 @@ use Rattle.bucket.specs.Trial.{trialFigures, trialOf}
 use Rattle.meter.specs.declared.meters.Meter.{Meter}
 use Rattle.meter.specs.Meter.{freshMeter, meterOk, offerOf, offersOf, openOf, recordAfter}
 use Rattle.depth.specs.DepthLaws.{depth-found}
-use Rattle.single.specs.Single.{singleOf}
 use Rattle.series.specs.OutlineLaws.{carried-below}
 use Rattle.encoding.specs.NumberLaws.{Bytes}
 use Rattle.order_file.specs.Order.{orderLength, writeOrder}
@@ -41,14 +40,16 @@ use Rattle.planning.specs.Planning.{planned}
 use Rattle.planning.specs.PlannedLaws.{is-planned, planned-cheapest}
 use Rattle.booking.specs.Booking.{planFigures}
 use Rattle.booking.specs.BookingLaws.{file-demands, order-demands}
-use Rattle.services.specs.Services.{singleIn, trialIn}
-use Rattle.services.specs.ServiceLaws.{priced-short}
+use Rattle.services.specs.Services.{depthFor, singleFor, singleIn, trialFor, trialIn}
+use Rattle.services.specs.ServiceLaws.{single-cost, single-line-short}
+use Rattle.sheets.specs.LengthLaws.{longestSheet}
 use Rattle.sheets.specs.Sheet.{sheetIn, sheetText}
 use Rattle.sheets.specs.SheetLaws.{sheet-short}
+use Rattle.text.specs.Fitted.{fitted}
 use Rattle.text.specs.Lines.{singleLine, trialLine}
-use Rattle.text.specs.LineLaws.{trial-short}
+use Rattle.text.specs.LineLaws.{longestSingle, longestTrial, trial-short}
 use Rattle.typed_figures.specs.Figures.{tariffFigures, tariffOf}
-use Rattle.exports.specs.Answers.{refusedFrom, coded, orderFrom, depthIn, plannedCost, planFileIn, meterIn}
+use Rattle.exports.specs.Answers.{refusedFrom, coded, orderFrom, plannedCost, planFileIn, meterIn}
 
 -- The figures of an answer are below the refusals.
 abbrev pub Below : Answer ℕ → Type 0
@@ -73,13 +74,18 @@ order-below room fs ds n e =
     let f = weigh-figures (leb (orderLength (length ds)) room) 6 _ (d .1) in
     omega (arith, ap length (same-figures (f .1)), length-order (length ds) (tariffOf fs) ds, g .2, periods-range (length ds) (a .0) .few)
 
-pub depth-below : (r : ℕ) (bs : List ℕ) → Below (depthIn r bs)
+-- ---- One bucket
+
+pub depth-below : (r : ℕ) (bs : List ℕ) → Below (depthFor r bs)
 depth-below r bs n e =
     let g = then-found (ordered traceLimit bs) _ e in
     let t = ordered-range (is-ordered traceLimit bs (g .0) (g .1)) .1 in
     omega (arith, depth-found (g .0 .order .tariff) r (g .0 .demands) (g .2) .within, t .depth-caps)
 
--- ---- Texts
+pub single-below : (bs : List ℕ) → Below (onFigures (λ s. s .cost) (singleFor bs))
+single-below bs n e =
+    let g = on-figures (λ s. s .cost) (singleFor bs) e in
+    omega (arith, single-cost bs (g .0) (g .1), g .2)
 
 gap-small : (r y d k : ℕ) → y + r ≤ k → d ≤ k → natAbs (gap r y d) ≤ k
 gap-small r y d k h l = rw (sub-is (y + r) d) (go (ltb (y + r) d) refl)
@@ -113,45 +119,53 @@ unfolding sumOf
 over-small r B y [] D = omega arith
 over-small r B y (d ∷ ds) D = omega (arith, D .each 0, over-small r B (held r B y d) ds (demands-tail D))
 
--- Each byte of the order is one: a demand of it has 16 bits.
-pub trial-below : (room : ℕ) (b : Bucket) (bs : List ℕ) → Bytes bs → Below (onFigures length (trialIn room b bs))
+-- What a trial answers is small. Each byte of the order is one: a demand of it has 16 bits.
+trial-small : (b : Bucket) (bs : List ℕ) → Bytes bs → (t : TrialFigures) → trialFor b bs ≡ figures t → (natAbs (t .spare) ≤ 2 ^ 63) × (t .over < 2 ^ 32)
 unfolding trialFigures
-trial-below room b bs bytes n e =
-    let g = on-figures length (trialIn room b bs) e in
-    let a = then-found (ordered traceLimit bs) _ (g .1) in
+trial-small b bs bytes t e =
+    let a = then-found (ordered traceLimit bs) _ e in
     let x = a .0 in
     let f = x .order .tariff .factor in
     let p = is-ordered traceLimit bs x (a .1) in
-    let t = then-found (trialOf b f (x .demands)) _ (a .2) in
-    let u = weigh-figures (periodsOk (length (x .demands))) 3 _ (t .1) in
+    let u = weigh-figures (periodsOk (length (x .demands))) 3 _ (a .2) in
     let v = weigh-figures (freshOk b f) 5 (figures (trialFigures b f (x .demands))) (u .1) in
     let w = fresh-range b f (v .0) in
     let D : Demands (x .demands) = subst Demands (sym (sym (spread-demands p) ∙ order-demands bs (x .order) (p .read))) (file-demands bs bytes) in
     let y = startOf (f .p) (f .q) (b .depth .0) in
     let s = spare-small (b .rate .0) (b .depth .0) y (x .demands) (depthLimit + rateLimit) (omega (arith, w .bucket .rates, w .bucket .depths)) (omega arith) (start-le (f .p) (f .q) (b .depth .0) (w .factor .part)) D in
     let o = over-small (b .rate .0) (b .depth .0) y (x .demands) D in
-    let is = same-figures (v .1) in
-    let line = trialLine (t .0 .spare) (t .0 .over) in
-    let c = weigh-figures (leb (length line) room) 6 (figures line) (t .2) in
-    let short = trial-short (t .0 .spare) (t .0 .over) (subst (λ (z : TrialFigures). natAbs (z .spare) ≤ 2 ^ 63) is (omega (arith, s))) (subst (λ (z : TrialFigures). z .over < 2 ^ 32) is (omega (arith, o, periods-range (length (x .demands)) (u .0) .few))) in
-    omega (arith, ap length (same-figures (c .1)), short, g .2)
+    let is = same-figures (v .1) in (
+      subst (λ (z : TrialFigures). natAbs (z .spare) ≤ 2 ^ 63) is (omega (arith, s)),
+      subst (λ (z : TrialFigures). z .over < 2 ^ 32) is (omega (arith, o, periods-range (length (x .demands)) (u .0) .few)),
+    )
 
-pub single-below : (room : ℕ) (bs : List ℕ) → Below (onFigures length (singleIn room bs))
-single-below room bs n e =
-    let g = on-figures length (singleIn room bs) e in
-    let a = then-found (ordered traceLimit bs) _ (g .1) in
-    let b = then-found (singleOf (a .0 .order .tariff) (a .0 .demands)) _ (a .2) in
-    let line = singleLine (b .0 .bucket) (b .0 .cost) in
-    let c = weigh-figures (leb (length line) room) 6 (figures line) (b .2) in
-    let r = ordered-range (is-ordered traceLimit bs (a .0) (a .1)) in
-    omega (arith, ap length (same-figures (c .1)), priced-short _ _ (b .0) (r .1) (r .0 .few) (b .1), g .2)
+pub trial-below : (b : Bucket) (bs : List ℕ) → Bytes bs → Below (onFigures (λ t. t .over) (trialFor b bs))
+trial-below b bs bytes n e =
+    let g = on-figures (λ t. t .over) (trialFor b bs) e in
+    omega (arith, trial-small b bs bytes (g .0) (g .1) .1, g .2)
+
+-- ---- Texts
+
+-- A line that fits its room is as long as it is.
+line-below : {A : Type 0} (a : Answer A) (line : A → List ℕ) (room most : ℕ) → most < refusedFrom → ((x : A) → a ≡ figures x → length (line x) ≤ most)
+    → Below (onFigures length (andThen a (λ x. fitted room (line x))))
+line-below a line room most h short n e =
+    let g = on-figures length (andThen a (λ x. fitted room (line x))) e in
+    let f = then-found a _ (g .1) in
+    let c = weigh-figures (leb (length (line (f .0))) room) 6 (figures (line (f .0))) (f .2) in
+    omega (arith, h, ap length (same-figures (c .1)), short (f .0) (f .1), g .2)
+
+pub trial-line-below : (room : ℕ) (b : Bucket) (bs : List ℕ) → Bytes bs → Below (onFigures length (trialIn room b bs))
+trial-line-below room b bs bytes =
+    line-below (trialFor b bs) (λ t. trialLine (t .spare) (t .over)) room longestTrial (omega arith)
+    (λ t e. let s = trial-small b bs bytes t e in trial-short (t .spare) (t .over) (s .0) (s .1))
+
+pub single-line-below : (room : ℕ) (bs : List ℕ) → Below (onFigures length (singleIn room bs))
+single-line-below room bs = line-below (singleFor bs) (λ s. singleLine (s .bucket) (s .cost)) room longestSingle (omega arith) (single-line-short bs)
 
 pub sheet-below : (room : ℕ) (bs : List ℕ) → Below (onFigures length (sheetIn room bs))
-sheet-below room bs n e =
-    let g = on-figures length (sheetIn room bs) e in
-    let a = then-found (planned traceLimit traceLimit bs) _ (g .1) in
-    let c = weigh-figures (leb (length (sheetText (a .0))) room) 6 (figures (sheetText (a .0))) (a .2) in
-    omega (arith, ap length (same-figures (c .1)), sheet-short (is-planned traceLimit traceLimit bs (a .0) (a .1)), g .2)
+sheet-below room bs =
+    line-below (planned traceLimit traceLimit bs) sheetText room longestSheet (omega arith) (λ x e. sheet-short (is-planned traceLimit traceLimit bs x e))
 
 -- ---- Plans
 

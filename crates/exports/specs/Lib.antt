@@ -1,5 +1,6 @@
 -- The definitions that contracts cite, and their laws.
 pub mod Answers
+pub mod LentNumberLaws
 pub mod OrderLaws
 pub mod PlanLaws
 pub mod MeterLaws

@@ -16,77 +16,60 @@ use Rattle.encoding.specs.FillLaws.{Fills, fill-refused}
 use Rattle.encoding.specs.StoreLaws.{sets-front}
 use Rattle.series.specs.Series.{trueCost}
 use Rattle.record_list.specs.Lists.{RecordLists, Filled, counted, recordsOf, recorded, roomOf}
-use Rattle.record_list.specs.ListLaws.{Rooms, rooms, lists-hold, lists-kept}
+use Rattle.record_list.specs.ListLaws.{Rooms, rooms, lists-kept}
 use Rattle.plan_file.specs.declared.plans.PlanFigures.{PlanFigures}
 use Rattle.plan_file.specs.Plan.{Recorded, bucketsOf, figuresIn, planFile, readPlan, recordedFigures}
 use Rattle.plan_file.specs.CallLaws.{count-fits}
+use Rattle.planning.specs.declared.orders.PlannedLists.{PlannedLists}
 use Rattle.planning.specs.declared.orders.PlannedOrder.{PlannedOrder}
-use Rattle.planning.specs.Planning.{Planned, planned, plannedFigures}
-use Rattle.planning.specs.CallLaws.{PlansOrder, found-plan, plan-is}
+use Rattle.planning.specs.Planning.{planned, plannedSays}
+use Rattle.planning.specs.AnyLaws.{PlansAny, any-refused, any-plan, any-planned, any-figures, any-records}
 use Rattle.booking.specs.Booking.{planFigures}
-use Rattle.exports.specs.Answers.{coded, planFileIn, plannedCost}
+use Rattle.exports.specs.Answers.{coded, figureOr, planFileIn, plannedCost, readIn}
+use Rattle.exports.specs.LentNumberLaws.{code-refused, code-found, number-kept, number-found}
 
--- ---- An order planned, in as many entries as any order needs
+-- ---- An order planned
 
 -- The figures of the plan found for an order.
 abbrev pub figuresFor : PlannedOrder → PlanFigures
 figuresFor y = record { periods = y .order .periods; buckets = y .plan .buckets; cost = y .plan .cost }
 
-module _ (bs demands : List ℕ) (plan : RecordLists) (demands′ : List ℕ) (plan′ : RecordLists)
-    (found : Answer PlannedOrder) (p : PlansOrder bs demands traceLimit plan demands′ plan′ found) (size : length demands ≡ traceLimit) where
-  sized : planned traceLimit traceLimit bs ≡ planned (length demands) traceLimit bs
-  sized = sym (ap (λ (n : ℕ). planned n traceLimit bs) size)
+module _ (bs : List ℕ) (r : PlannedLists) (p : PlansAny bs r) where
+  pub cost-refused : (n : ℕ) → plannedSays (r .answer) ≡ refused n → refused n ≡ plannedCost bs
+  cost-refused n f = sym (ap (onFigures (λ x. trueCost (x .order .tariff) (x .cutting))) (any-refused bs r p n f))
 
-  unplanned : (n : ℕ) → found ≡ refused n → planned traceLimit traceLimit bs ≡ refused n
-  unplanned n f = sized ∙ on-refused plannedFigures (planned (length demands) traceLimit bs) (sym (p .answers) ∙ f)
+  pub file-refused : (n : ℕ) → plannedSays (r .answer) ≡ refused n → (old : List ℕ) → Fills (planFileIn (length old) bs) old (refused n) old
+  file-refused n f old = fill-refused (planFileIn (length old) bs) old n (sym (then-refused (planned traceLimit traceLimit bs) _ (any-refused bs r p n f)))
 
-  pub cost-refused : (n : ℕ) → found ≡ refused n → refused n ≡ plannedCost bs
-  cost-refused n f = sym (ap (onFigures (λ x. trueCost (x .order .tariff) (x .cutting))) (unplanned n f))
-
-  pub file-refused : (n : ℕ) → found ≡ refused n → (old : List ℕ) → Fills (planFileIn (length old) bs) old (refused n) old
-  file-refused n f old = fill-refused (planFileIn (length old) bs) old n (sym (then-refused (planned traceLimit traceLimit bs) _ (unplanned n f)))
-
-  module _ (y : PlannedOrder) (f : found ≡ figures y) where
-    abbrev found-here : (x : Planned) × (planned (length demands) traceLimit bs ≡ figures x) × (plannedFigures x ≡ y)
-    found-here = found-plan bs demands traceLimit plan demands′ plan′ found p y f
-
-    abbrev x : Planned
-    x = found-here .0
-
-    planned-is : planned traceLimit traceLimit bs ≡ figures x
-    planned-is = sized ∙ found-here .1
-
+  module _ (y : PlannedOrder) (f : plannedSays (r .answer) ≡ figures y) where
     pub cost-found : figures (y .plan .cost) ≡ plannedCost bs
     cost-found =
-        ap (λ (z : PlannedOrder). figures (z .plan .cost)) (sym (found-here .2))
-        ∙ sym (ap (onFigures (λ x. trueCost (x .order .tariff) (x .cutting))) planned-is)
-
-    -- the records at the front of the lists are the cutting
-    records-are : recordsOf (y .plan .buckets) (plan′ .runs) (plan′ .rates) (plan′ .depths) ≡ x .cutting
-    records-are =
-        ap (λ (z : PlannedOrder). recordsOf (z .plan .buckets) (plan′ .runs) (plan′ .rates) (plan′ .depths)) (sym (found-here .2))
-        ∙ lists-hold (x .cutting) plan plan′ (plan-is bs demands traceLimit plan demands′ plan′ found p y f)
+        ap (λ (z : PlannedOrder). figures (z .plan .cost)) (sym (any-figures bs r p y f))
+        ∙ sym (ap (onFigures (λ x. trueCost (x .order .tariff) (x .cutting))) (any-planned bs r p y f))
 
     -- a file written from the lists is the definition's
-    pub file-found : (old new : List ℕ) (r : Answer ℕ)
-        → Fills (planFile traceLimit (length old) (figuresFor y) (recordsOf (y .plan .buckets) (plan′ .runs) (plan′ .rates) (plan′ .depths))) old r new
-        → Fills (planFileIn (length old) bs) old r new
-    file-found old new r k =
+    pub file-found : (old new : List ℕ) (a : Answer ℕ)
+        → Fills (planFile traceLimit (length old) (figuresFor y) (recordsOf (y .plan .buckets) (r .runs) (r .rates) (r .depths))) old a new
+        → Fills (planFileIn (length old) bs) old a new
+    file-found old new a k =
+        let x = any-plan bs r p y f in
         let file : PlannedOrder → Cutting → Answer (List ℕ) = λ z xs. planFile traceLimit (length old) (figuresFor z) xs in
-        let e : file y (recordsOf (y .plan .buckets) (plan′ .runs) (plan′ .rates) (plan′ .depths)) ≡ planFileIn (length old) bs =
-        ap (file y) records-are ∙ ap (λ (z : PlannedOrder). file z (x .cutting)) (sym (found-here .2))
-        ∙ then-figures (planned traceLimit traceLimit bs) (λ z. planFile traceLimit (length old) (planFigures z) (z .cutting)) planned-is in
-        subst (λ (a : Answer (List ℕ)). Fills a old r new) e k
+        let e : file y (recordsOf (y .plan .buckets) (r .runs) (r .rates) (r .depths)) ≡ planFileIn (length old) bs =
+        ap (file y) (any-records bs r p y f) ∙ ap (λ (z : PlannedOrder). file z (x .cutting)) (sym (any-figures bs r p y f))
+        ∙ then-figures (planned traceLimit traceLimit bs) (λ z. planFile traceLimit (length old) (planFigures z) (z .cutting)) (any-planned bs r p y f) in
+        subst (λ (b : Answer (List ℕ)). Fills b old a new) e k
 
 -- ---- A plan read
 
 module _ (bs : List ℕ) (old new : RecordLists) where
   abbrev reading : Answer Recorded
-  reading = readPlan (roomOf (old .runs) (old .rates) (old .depths)) bs
+  reading = readIn bs old
 
-  -- r is answered, and the caller's lists hold the records.
-  abbrev pub ReadsCoded : ℕ → Type 0
-  ReadsCoded r = (r ≡ coded (onFigures (λ x. x .cost) reading)) × Filled (bucketsOf reading) old new
+  -- r is answered; of two numbers that held T and k the one holds t and the other n; the caller's lists hold the records.
+  abbrev pub ReadsCoded : (T k r t n : ℕ) → Type 0
+  ReadsCoded T k r t n =
+      (r ≡ coded (onFigures (λ x. x .cost) reading))
+      × ((t ≡ figureOr (onFigures (λ x. x .periods) reading) T) × ((n ≡ figureOr (onFigures (λ x. length (x .buckets)) reading) k) × Filled (bucketsOf reading) old new))
 
 -- What was read with just so much room, into lists of this crate's own.
 module _ (bs : List ℕ) (old : RecordLists) (room : ℕ) (size : room ≡ roomOf (old .runs) (old .rates) (old .depths))
@@ -94,10 +77,18 @@ module _ (bs : List ℕ) (old : RecordLists) (room : ℕ) (size : room ≡ roomO
   read-as : answer ≡ recordedFigures (reading bs old old)
   read-as = says ∙ ap (λ (n : ℕ). recordedFigures (readPlan n bs)) size
 
-  pub plan-unread : (n : ℕ) → answer ≡ refused n → (r : ℕ) → r ≡ coded (refused n) → ReadsCoded bs old old r
-  plan-unread n f r e =
-      let g : reading bs old old ≡ refused n = on-refused _ (reading bs old old) (sym read-as ∙ f) in
-      (e ∙ sym (ap (λ (a : Answer Recorded). coded (onFigures (λ x. x .cost) a)) g), lists-kept (bucketsOf (reading bs old old)) old n (ap bucketsOf g))
+  pub plan-unread : (T k n : ℕ) → answer ≡ refused n → (r : ℕ) → r ≡ coded (refused n) → ReadsCoded bs old old T k r T k
+  plan-unread T k n f r e =
+      let g : reading bs old old ≡ refused n = on-refused _ (reading bs old old) (sym read-as ∙ f) in (
+        code-refused (reading bs old old) (λ x. x .cost) n r g e,
+        (
+          number-kept (reading bs old old) (λ x. x .periods) T n g,
+          (
+            number-kept (reading bs old old) (λ x. length (x .buckets)) k n g,
+            lists-kept (bucketsOf (reading bs old old)) old n (ap bucketsOf g),
+          ),
+        ),
+      )
 
   module _ (y : PlanFigures) (f : answer ≡ figures y) where
     found : (x : Recorded) × (reading bs old old ≡ figures x) × (figuresIn x ≡ y)
@@ -145,8 +136,8 @@ module _ (bs : List ℕ) (old : RecordLists) (room : ℕ) (size : room ≡ roomO
           → new .runs ≡ sets (old .runs) 0 (take (y .buckets) (mid .runs))
           → new .rates ≡ sets (old .rates) 0 (take (y .buckets) (mid .rates))
           → new .depths ≡ sets (old .depths) 0 (take (y .buckets) (mid .depths))
-          → ReadsCoded bs old new (y .cost)
-      plan-read new a b c =
+          → (T k : ℕ) → ReadsCoded bs old new T k (y .cost) (y .periods) (y .buckets)
+      plan-read new a b c T k =
           let r = buckets-room in
           let g = filled-here in
           let all : Filled (figures xs) old new = (
@@ -156,6 +147,12 @@ module _ (bs : List ℕ) (old : RecordLists) (room : ℕ) (size : room ≡ roomO
               stored runDepth (zeros .depths) (mid .depths) (old .depths) (new .depths) (g .1 .1) (r .third) c,
             ),
           ) in (
-            ap (λ (z : PlanFigures). z .cost) (sym (found .2)) ∙ sym (ap (λ (a : Answer Recorded). coded (onFigures (λ x. x .cost) a)) (found .1)),
-            subst (λ (a : Answer Cutting). Filled a old new) (sym (ap bucketsOf (found .1))) all,
+            ap (λ (z : PlanFigures). z .cost) (sym (found .2)) ∙ code-found (reading bs old old) (λ x. x .cost) (found .0) (found .1),
+            (
+              ap (λ (z : PlanFigures). z .periods) (sym (found .2)) ∙ number-found (reading bs old old) (λ x. x .periods) T (found .0) (found .1),
+              (
+                sym count-is ∙ number-found (reading bs old old) (λ x. length (x .buckets)) k (found .0) (found .1),
+                subst (λ (a : Answer Cutting). Filled a old new) (sym (ap bucketsOf (found .1))) all,
+              ),
+            ),
           )

@@ -6,7 +6,7 @@ use plan_file::PlanFigures;
 use plan_file::lists::read_lists;
 use plan_file::lists::write_lists;
 use planning::orders::PlannedAnswer;
-use planning::orders::plan_order;
+use planning::orders::plan_any;
 use terms::limits::TRACE_LIMIT;
 use terms::numbers::shorter;
 ghost use Prim.Native.Nat.{_≤_};
@@ -15,27 +15,17 @@ ghost use lib.ListN.{length};
 ghost use lib.Seq.{sets};
 ghost use Rattle.terms.specs.Answer.{onFigures};
 ghost use Rattle.terms.specs.Lent.{filled};
-ghost use Rattle.record_list.specs.Lists.{Filled, lists, roomOf};
-ghost use Rattle.plan_file.specs.Plan.{bucketsOf, readPlan};
-ghost use Rattle.exports.specs.Answers.{coded, planFileIn, plannedCost};
+ghost use Rattle.record_list.specs.Lists.{Filled, lists};
+ghost use Rattle.plan_file.specs.Plan.{bucketsOf};
+ghost use Rattle.exports.specs.Answers.{coded, figureOr, planFileIn, plannedCost, readIn};
 
 // The cost of the cheapest plan for an order; or refusal 1 to 5 of the order or 7.
 #[no_mangle]
 pub extern "C" fn metqoraz_series(order: &[u8]) -> u64
     ensures { λ r. ⌜ r ≡ coded (plannedCost (now (order .entry))) ⌝ }
 {
-    let mut demands = [0u16; TRACE_LIMIT];
-    let mut runs = [0u32; TRACE_LIMIT];
-    let mut rates = [0u32; TRACE_LIMIT];
-    let mut depths = [0u32; TRACE_LIMIT];
-    match plan_order(
-        order,
-        &mut demands,
-        TRACE_LIMIT,
-        &mut runs,
-        &mut rates,
-        &mut depths,
-    ) {
+    let answer = plan_any(order).answer;
+    match answer {
         PlannedAnswer::Found(x) => x.plan.cost,
         PlannedAnswer::Refused(why) => coded_refusal(why),
     }
@@ -48,18 +38,9 @@ pub extern "C" fn metqoraz_book(order: &[u8], plan: &mut [u8]) -> u64
     ensures { λ r. ⌜ r ≡ coded (onFigures length (planFileIn (length (now (plan .entry))) (now (order .entry)))) ⌝ }
     ensures { λ _. ⌜ now (plan .exit) ≡ filled (planFileIn (length (now (plan .entry))) (now (order .entry))) (now (plan .entry)) ⌝ }
 {
-    let mut demands = [0u16; TRACE_LIMIT];
-    let mut runs = [0u32; TRACE_LIMIT];
-    let mut rates = [0u32; TRACE_LIMIT];
-    let mut depths = [0u32; TRACE_LIMIT];
-    let found = match plan_order(
-        order,
-        &mut demands,
-        TRACE_LIMIT,
-        &mut runs,
-        &mut rates,
-        &mut depths,
-    ) {
+    let planned = plan_any(order);
+    let answer = planned.answer;
+    let found = match answer {
         PlannedAnswer::Found(x) => x,
         PlannedAnswer::Refused(why) => return coded_refusal(why),
     };
@@ -68,21 +49,28 @@ pub extern "C" fn metqoraz_book(order: &[u8], plan: &mut [u8]) -> u64
         buckets: found.plan.buckets,
         cost: found.plan.cost,
     };
+    let runs = planned.runs;
+    let rates = planned.rates;
+    let depths = planned.depths;
     coded_fill(write_lists(figures, TRACE_LIMIT, &runs, &rates, &depths, plan))
 }
 
-// Reads a plan file: its run lengths, rates and depths into the fronts of the three lists; answers its
-// cost, or refusal 1 to 5 or 6 (a list with fewer entries than buckets), and the lists are as they
-// were.
+// Reads a plan file: its T and its number of buckets into the two numbers, its run lengths, rates and
+// depths into the fronts of the three lists; answers its cost, or refusal 1 to 5 or 6 (a list with fewer
+// entries than buckets), and everything lent is as it was.
 #[no_mangle]
 pub extern "C" fn metqoraz_plan(
     plan: &[u8],
+    periods: &mut u32,
+    buckets: &mut u32,
     runs: &mut [u32],
     rates: &mut [u32],
     depths: &mut [u32],
 ) -> u64
-    ensures { λ r. ⌜ r ≡ coded (onFigures (λ x. x .cost) (readPlan (roomOf (now (runs .entry)) (now (rates .entry)) (now (depths .entry))) (now (plan .entry)))) ⌝ }
-    ensures { λ _. ⌜ Filled (bucketsOf (readPlan (roomOf (now (runs .entry)) (now (rates .entry)) (now (depths .entry))) (now (plan .entry))))
+    ensures { λ r. ⌜ r ≡ coded (onFigures (λ x. x .cost) (readIn (now (plan .entry)) (lists (now (runs .entry)) (now (rates .entry)) (now (depths .entry))))) ⌝ }
+    ensures { λ _. ⌜ now (periods .exit) ≡ figureOr (onFigures (λ x. x .periods) (readIn (now (plan .entry)) (lists (now (runs .entry)) (now (rates .entry)) (now (depths .entry))))) (now (periods .entry)) ⌝ }
+    ensures { λ _. ⌜ now (buckets .exit) ≡ figureOr (onFigures (λ x. length (x .buckets)) (readIn (now (plan .entry)) (lists (now (runs .entry)) (now (rates .entry)) (now (depths .entry))))) (now (buckets .entry)) ⌝ }
+    ensures { λ _. ⌜ Filled (bucketsOf (readIn (now (plan .entry)) (lists (now (runs .entry)) (now (rates .entry)) (now (depths .entry)))))
         (lists (now (runs .entry)) (now (rates .entry)) (now (depths .entry)))
         (lists (now (runs .exit)) (now (rates .exit)) (now (depths .exit))) ⌝ }
 {
@@ -100,10 +88,12 @@ pub extern "C" fn metqoraz_plan(
         PlanAnswer::Read(x) => x,
         PlanAnswer::Refused(why) => return coded_refusal(why),
     };
-    let buckets = read.buckets as usize;
-    store(&read_runs[..buckets], runs);
-    store(&read_rates[..buckets], rates);
-    store(&read_depths[..buckets], depths);
+    let count = read.buckets as usize;
+    store(&read_runs[..count], runs);
+    store(&read_rates[..count], rates);
+    store(&read_depths[..count], depths);
+    *periods = read.periods;
+    *buckets = read.buckets;
     read.cost
 }
 

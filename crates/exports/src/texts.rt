@@ -18,7 +18,7 @@ ghost use Rattle.exports.specs.Answers.{coded};
 // Writes the line of a trial of a bucket on an order's trace into the front of the text and answers
 // its length; or refusal 1 to 5 of the order, 5 of the bucket or 6, and the text is as it was.
 #[no_mangle]
-pub extern "C" fn metqoraz_trial(order: &[u8], rate: u32, depth: u32, text: &mut [u8]) -> u64
+pub extern "C" fn metqoraz_trial_line(order: &[u8], rate: u32, depth: u32, text: &mut [u8]) -> u64
     ensures { λ r. ⌜ r ≡ coded (onFigures length (trialIn (length (now (text .entry))) (bucketOf rate depth) (now (order .entry)))) ⌝ }
     ensures { λ _. ⌜ now (text .exit) ≡ filled (trialIn (length (now (text .entry))) (bucketOf rate depth) (now (order .entry))) (now (text .entry)) ⌝ }
 {
@@ -32,7 +32,7 @@ pub extern "C" fn metqoraz_trial(order: &[u8], rate: u32, depth: u32, text: &mut
 // Writes the line of the single bucket for an order into the front of the text and answers its
 // length; or refusal 1 to 5 of the order, 7 or 6, and the text is as it was.
 #[no_mangle]
-pub extern "C" fn metqoraz_single(order: &[u8], text: &mut [u8]) -> u64
+pub extern "C" fn metqoraz_single_line(order: &[u8], text: &mut [u8]) -> u64
     ensures { λ r. ⌜ r ≡ coded (onFigures length (singleIn (length (now (text .entry))) (now (order .entry)))) ⌝ }
     ensures { λ _. ⌜ now (text .exit) ≡ filled (singleIn (length (now (text .entry))) (now (order .entry))) (now (text .entry)) ⌝ }
 {

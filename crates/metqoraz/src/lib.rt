@@ -95,4 +95,6 @@ pub use exports::metqoraz_plan;
 pub use exports::metqoraz_series;
 pub use exports::metqoraz_sheet;
 pub use exports::metqoraz_single;
+pub use exports::metqoraz_single_line;
 pub use exports::metqoraz_trial;
+pub use exports::metqoraz_trial_line;

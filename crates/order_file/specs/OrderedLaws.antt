@@ -3,7 +3,7 @@
 use Prim.Native.Nat.{ℕ, min, _/_, _≤_}
 use native.Mathlib.Omega.{arith}
 use native.Mathlib.Nat.{le-min}
-use mathlib.Core.Path.{_≡_, refl, sym, ap, subst, _∙_}
+use mathlib.Core.Path.{_≡_, refl, sym, ap, ap₂, subst, _∙_}
 use mathlib.Core.Bool.{Bool, true, false, _&&_}
 use mathlib.Core.List.{List}
 use borrow.Author.Tests.{leb-true}
@@ -172,3 +172,19 @@ module _ (bs demands demands′ : List ℕ) (found : Answer Order) (p : SpreadsO
   order-range =
       let r = ordered-range order-is in
       (subst (λ (ds : List ℕ). PeriodsRange (length ds)) (sym demands-are) (r .0), subst (λ (z : Order). TariffRange (z .tariff)) (found-order .2) (r .1))
+
+-- ---- An order read and its trace spread, into as many entries as any order needs
+
+module _ (bs demands demands′ : List ℕ) (found : Answer Order) (p : SpreadsOrder bs demands demands′ found) (size : length demands ≡ traceLimit) where
+  sized : ordered traceLimit bs ≡ ordered (length demands) bs
+  sized = sym (ap (λ (n : ℕ). ordered n bs) size)
+
+  pub order-unread : (n : ℕ) → found ≡ refused n → ordered traceLimit bs ≡ refused n
+  order-unread n f = sized ∙ on-refused (λ x. x .order) (ordered (length demands) bs) (sym (p .answers) ∙ f)
+
+  pub order-read : (o : Order) → found ≡ figures o → ordered traceLimit bs ≡ figures (record { order = o; demands = take (o .periods) demands′ })
+  order-read o f =
+      let x = found-order bs demands demands′ found p o f in
+      let e : x .0 ≡ record { order = o; demands = take (o .periods) demands′ } =
+      ap₂ (λ (z : Order) (ds : List ℕ). record { order = z; demands = ds }) (x .2) (sym (demands-are bs demands demands′ found p o f)) in
+      sized ∙ x .1 ∙ ap figures e

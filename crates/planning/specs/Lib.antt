@@ -2,3 +2,4 @@
 pub mod Planning
 pub mod PlannedLaws
 pub mod CallLaws
+pub mod AnyLaws

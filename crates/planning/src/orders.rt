@@ -14,6 +14,7 @@ ghost use Rattle.record_list.specs.Lists.{Wide, lists};
 ghost use Rattle.series.specs.Series.{seriesSays};
 ghost use Rattle.planning.specs.Planning.{plannedSays};
 ghost use Rattle.planning.specs.CallLaws.{PlansOrder, withOrder};
+ghost use Rattle.planning.specs.AnyLaws.{PlansAny};
 
 // What an order says and the plan found for it.
 pub struct PlannedOrder {
@@ -61,6 +62,42 @@ pub fn plan_order(
     };
     store_demands(&trace[..periods], demands);
     answer
+}
+
+// What planning answers, with room for any order: the demands, and the run lengths, rates and depths of
+// the plan found, at the fronts of lists of zeros.
+pub struct PlannedLists {
+    pub answer: PlannedAnswer,
+    pub demands: [u16; TRACE_LIMIT],
+    pub runs: [u32; TRACE_LIMIT],
+    pub rates: [u32; TRACE_LIMIT],
+    pub depths: [u32; TRACE_LIMIT],
+}
+
+// Reads the order, spreads its trace's part and plans the series, as every call begins that lends its
+// own lists.
+pub fn plan_any(order: &[u8]) -> PlannedLists
+    ensures { λ r. ⌜ PlansAny (now (order .entry)) r ⌝ }
+{
+    let mut demands = [0u16; TRACE_LIMIT];
+    let mut runs = [0u32; TRACE_LIMIT];
+    let mut rates = [0u32; TRACE_LIMIT];
+    let mut depths = [0u32; TRACE_LIMIT];
+    let answer = plan_order(
+        order,
+        &mut demands,
+        TRACE_LIMIT,
+        &mut runs,
+        &mut rates,
+        &mut depths,
+    );
+    PlannedLists {
+        answer,
+        demands,
+        runs,
+        rates,
+        depths,
+    }
 }
 
 // The plan found with what the order says, or the refusal.

@@ -1,22 +1,39 @@
--- A trial and the single bucket as a line each, from an order file (00, the first two services).
+-- The depth at a rate, a trial and the single bucket from an order file, as figures, and the last two as a line each (00, the
+-- first two services).
 -- Assumes nothing.
 use Prim.Native.Nat.{ℕ}
 use mathlib.Core.List.{List}
 use Rattle.terms.specs.declared.Bucket.{Bucket}
 use Rattle.terms.specs.Answer.{Answer, andThen}
 use Rattle.terms.specs.Limits.{traceLimit}
+use Rattle.bucket.specs.declared.trials.TrialFigures.{TrialFigures}
 use Rattle.bucket.specs.Trial.{trialOf}
+use Rattle.depth.specs.Depth.{depthOf}
+use Rattle.single.specs.declared.costs.Priced.{Priced}
 use Rattle.single.specs.Single.{singleOf}
 use Rattle.order_file.specs.Ordered.{ordered}
 use Rattle.text.specs.Lines.{trialLine, singleLine}
 use Rattle.text.specs.Fitted.{fitted}
 
--- The trial of a bucket on an order's demands, with the order's factor, in `room` bytes: 1 to 5 as reading gives it, 5 for the
--- bucket, then 6.
-abbrev pub trialIn : ℕ → Bucket → List ℕ → Answer (List ℕ)
-trialIn room b bs =
-    andThen (ordered traceLimit bs) (λ x. andThen (trialOf b (x .order .tariff .factor) (x .demands)) (λ t. fitted room (trialLine (t .spare) (t .over))))
+-- ---- Figures
 
--- The single bucket for an order's demands, in `room` bytes: 1 to 5 as reading gives it, 7 where there is none, then 6.
+-- The smallest depth for an order's demands at a rate (01, "Depth at a rate"): 1 to 5 as reading gives it, 5 for the rate, 7 for
+-- none.
+abbrev pub depthFor : ℕ → List ℕ → Answer ℕ
+depthFor r bs = andThen (ordered traceLimit bs) (λ x. depthOf (x .order .tariff) r (x .demands))
+
+-- The single bucket for an order's demands: 1 to 5 as reading gives it, 7 where there is none.
+abbrev pub singleFor : List ℕ → Answer Priced
+singleFor bs = andThen (ordered traceLimit bs) (λ x. singleOf (x .order .tariff) (x .demands))
+
+-- The trial of a bucket on an order's demands, with the order's factor: 1 to 5 as reading gives it, 5 for the bucket.
+abbrev pub trialFor : Bucket → List ℕ → Answer TrialFigures
+trialFor b bs = andThen (ordered traceLimit bs) (λ x. trialOf b (x .order .tariff .factor) (x .demands))
+
+-- ---- Lines, in `room` bytes: the same refusals, then 6
+
 abbrev pub singleIn : ℕ → List ℕ → Answer (List ℕ)
-singleIn room bs = andThen (ordered traceLimit bs) (λ x. andThen (singleOf (x .order .tariff) (x .demands)) (λ s. fitted room (singleLine (s .bucket) (s .cost))))
+singleIn room bs = andThen (singleFor bs) (λ s. fitted room (singleLine (s .bucket) (s .cost)))
+
+abbrev pub trialIn : ℕ → Bucket → List ℕ → Answer (List ℕ)
+trialIn room b bs = andThen (trialFor b bs) (λ t. fitted room (trialLine (t .spare) (t .over)))

@@ -1,5 +1,6 @@
-// The services that are a line of text, from an order file: the trial of a bucket, and the single
-// bucket.
+// The services on one bucket, from an order file: the depth at a rate, the single bucket and the trial as
+// figures, and the last two as a line of text each.
+pub mod figures;
 mod lines;
 
 pub use lines::LONGEST_SINGLE;

@@ -1,13 +1,10 @@
 // The two services that are a line of text, from an order file: the trial and the single bucket.
+use crate::figures::single_for;
+use crate::figures::trial_for;
 use bucket::TrialAnswer;
-use bucket::trial;
 use encoding::FillAnswer;
-use order_file::OrderAnswer;
-use order_file::spreads::spread_order;
 use single::SingleAnswer;
-use single::single;
 use terms::Bucket;
-use terms::limits::TRACE_LIMIT;
 use text::fills::fill;
 use text::lines::put_single_line;
 use text::lines::put_trial_line;
@@ -28,13 +25,7 @@ pub fn trial_line(order: &[u8], bucket: Bucket, text: &mut [u8]) -> FillAnswer
     ensures { λ r. ⌜ fillSays r ≡ onFigures length (trialIn (length (now (text .entry))) bucket (now (order .entry))) ⌝ }
     ensures { λ _. ⌜ now (text .exit) ≡ filled (trialIn (length (now (text .entry))) bucket (now (order .entry))) (now (text .entry)) ⌝ }
 {
-    let mut demands = [0u16; TRACE_LIMIT];
-    let found = match spread_order(order, &mut demands) {
-        OrderAnswer::Read(x) => x,
-        OrderAnswer::Refused(why) => return FillAnswer::Refused(why),
-    };
-    let factor = found.tariff.factor;
-    let figures = match trial(bucket, factor, &demands[..found.periods as usize]) {
+    let figures = match trial_for(order, bucket) {
         TrialAnswer::Found(x) => x,
         TrialAnswer::Refused(why) => return FillAnswer::Refused(why),
     };
@@ -53,13 +44,7 @@ pub fn single_line(order: &[u8], text: &mut [u8]) -> FillAnswer
     ensures { λ r. ⌜ fillSays r ≡ onFigures length (singleIn (length (now (text .entry))) (now (order .entry))) ⌝ }
     ensures { λ _. ⌜ now (text .exit) ≡ filled (singleIn (length (now (text .entry))) (now (order .entry))) (now (text .entry)) ⌝ }
 {
-    let mut demands = [0u16; TRACE_LIMIT];
-    let found = match spread_order(order, &mut demands) {
-        OrderAnswer::Read(x) => x,
-        OrderAnswer::Refused(why) => return FillAnswer::Refused(why),
-    };
-    let tariff = found.tariff;
-    let priced = match single(&demands[..found.periods as usize], tariff) {
+    let priced = match single_for(order) {
         SingleAnswer::Found(x) => x,
         SingleAnswer::Refused(why) => return FillAnswer::Refused(why),
     };

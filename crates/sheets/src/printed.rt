@@ -3,8 +3,7 @@ use crate::plans::LONGEST_SHEET;
 use crate::plans::put_sheet;
 use encoding::FillAnswer;
 use planning::orders::PlannedAnswer;
-use planning::orders::plan_order;
-use terms::limits::TRACE_LIMIT;
+use planning::orders::plan_any;
 use text::fills::fill;
 ghost use mathlib.Core.Path.{_≡_};
 ghost use lib.ListN.{length};
@@ -20,21 +19,16 @@ pub fn sheet(order: &[u8], text: &mut [u8]) -> FillAnswer
     ensures { λ r. ⌜ fillSays r ≡ onFigures length (sheetIn (length (now (text .entry))) (now (order .entry))) ⌝ }
     ensures { λ _. ⌜ now (text .exit) ≡ filled (sheetIn (length (now (text .entry))) (now (order .entry))) (now (text .entry)) ⌝ }
 {
-    let mut demands = [0u16; TRACE_LIMIT];
-    let mut runs = [0u32; TRACE_LIMIT];
-    let mut rates = [0u32; TRACE_LIMIT];
-    let mut depths = [0u32; TRACE_LIMIT];
-    let found = match plan_order(
-        order,
-        &mut demands,
-        TRACE_LIMIT,
-        &mut runs,
-        &mut rates,
-        &mut depths,
-    ) {
+    let planned = plan_any(order);
+    let answer = planned.answer;
+    let found = match answer {
         PlannedAnswer::Found(x) => x,
         PlannedAnswer::Refused(why) => return FillAnswer::Refused(why),
     };
+    let demands = planned.demands;
+    let runs = planned.runs;
+    let rates = planned.rates;
+    let depths = planned.depths;
     let mut ready = [0u8; LONGEST_SHEET];
     let length = put_sheet(&mut ready, found, &demands, &runs, &rates, &depths);
     fill(&ready[..length], text)

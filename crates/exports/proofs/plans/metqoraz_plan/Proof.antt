@@ -67,10 +67,11 @@ returns : tie.Need-returns
 returns c =
     let w = c .before .before in
     let l = w .before .before .before .before .before in
-    plan-unread (start-at l .args .plan .now) (lent-at l) _ (room l) _ (l .read-lists .ensures .0) _ (ap planSays (w .why .given .1)) _ (c .coded-refusal .ensures)
+    let s = start-at l .args in
+    plan-unread (s .plan .now) (lent-at l) _ (room l) _ (l .read-lists .ensures .0) (s .periods .now) (s .buckets .now) _ (ap planSays (w .why .given .1)) _ (c .coded-refusal .ensures)
 
-cast-buckets : tie.Need-cast-buckets
-cast-buckets c = search needs
+cast-count : tie.Need-cast-count
+cast-count c = search needs
 
 array-share-prefix-read-runs : tie.Need-array-share-prefix-read-runs
 array-share-prefix-read-runs c = read-room (c .before .before) .first
@@ -121,6 +122,7 @@ returns-2 c =
     plan-read (start-at l .args .plan .now) (lent-at l) _ (room l) _ (l .read-lists .ensures .0) _ (ap planSays (x .x .given .1)) _ (read-at l) (l .read-lists .ensures .1 .0)
     (lists (c .before .before .before .before .before .before .before .before .before .before .before .before .store .last .1 .0) (c .before .before .before .before .before .before .before .store2 .last .1 .0) (c .before .before .store3 .last .1 .0))
     (c .before .before .before .before .before .before .before .before .before .before .before .before .store .ensures) (c .before .before .before .before .before .before .before .store2 .ensures) (c .before .before .store3 .ensures)
+    (start-at l .args .periods .now) (start-at l .args .buckets .now)
 
 pub metqoraz-plan-spec : {M : Type 1} → statement M
 metqoraz-plan-spec =
@@ -136,7 +138,7 @@ metqoraz-plan-spec =
     enum-known-why
     coded-refusal-requires
     returns
-    cast-buckets
+    cast-count
     array-share-prefix-read-runs
     slice-aggregate-store
     store-requires

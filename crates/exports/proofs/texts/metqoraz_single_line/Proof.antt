@@ -2,8 +2,8 @@
 use mathlib.Core.Path.{ap, _∙_}
 use Rattle.exports.specs.Answers.{coded}
 use borrow.Author.Needs.{needs}
-use Rattle.exports.proofs.texts.metqoraz_single.Statement.{statement}
-use Rattle.exports.proofs.texts.metqoraz_single.Tie as tie
+use Rattle.exports.proofs.texts.metqoraz_single_line.Statement.{statement}
+use Rattle.exports.proofs.texts.metqoraz_single_line.Tie as tie
 
 single-line-requires : tie.Need-single-line-requires
 single-line-requires c κs = search needs
@@ -19,6 +19,6 @@ returns c =
     let e = c .before .before .before .single-line .ensures in
     (c .coded-fill .ensures ∙ ap coded (e .0), e .1)
 
-pub metqoraz-single-spec : {M : Type 1} → statement M
-metqoraz-single-spec =
+pub metqoraz-single-line-spec : {M : Type 1} → statement M
+metqoraz-single-line-spec =
     tie.close (tie.spec single-line-requires coded-fill-requires same-length returns)
