@@ -168,11 +168,6 @@ module _ (bs demands demands′ : List ℕ) (found : Answer Order) (p : SpreadsO
   pub demands-inside : o .periods ≤ length demands′
   demands-inside = omega (arith, demands-count, length-take (o .periods) demands′)
 
-  pub order-range : PeriodsRange (length (take (o .periods) demands′)) × TariffRange (o .tariff)
-  order-range =
-      let r = ordered-range order-is in
-      (subst (λ (ds : List ℕ). PeriodsRange (length ds)) (sym demands-are) (r .0), subst (λ (z : Order). TariffRange (z .tariff)) (found-order .2) (r .1))
-
 -- ---- An order read and its trace spread, into as many entries as any order needs
 
 module _ (bs demands demands′ : List ℕ) (found : Answer Order) (p : SpreadsOrder bs demands demands′ found) (size : length demands ≡ traceLimit) where

@@ -128,10 +128,10 @@ module _ (bs demands : List ℕ) (room : ℕ) (plan : RecordLists) (demands′ :
   pub found-plan : (x : Planned) × (planned (length demands) room bs ≡ figures x) × (plannedFigures x ≡ y)
   found-plan = on-figures plannedFigures (planned (length demands) room bs) (sym (p .answers) ∙ f)
 
-  abbrev pub found-as : Planned
+  abbrev found-as : Planned
   found-as = found-plan .0
 
-  pub found-is : IsPlanned (length demands) room bs found-as
+  found-is : IsPlanned (length demands) room bs found-as
   found-is = is-planned (length demands) room bs found-as (found-plan .1)
 
   periods-is : y .order .periods ≡ length (found-as .demands)

@@ -6,18 +6,6 @@ use borrow.Author.Needs.{needs}
 use Rattle.exports.proofs.buckets.metqoraz_single.Statement.{statement}
 use Rattle.exports.proofs.buckets.metqoraz_single.Tie as tie
 
-single-for-requires : tie.Need-single-for-requires
-single-for-requires c κs = search needs
-
-enum-known-x : tie.Need-enum-known-x
-enum-known-x c = search needs
-
-enum-known-why : tie.Need-enum-known-why
-enum-known-why c = search needs
-
-coded-refusal-requires : tie.Need-coded-refusal-requires
-coded-refusal-requires c κs = search needs
-
 returns : tie.Need-returns
 returns c =
     let w = c .before .before in
@@ -33,4 +21,4 @@ returns-2 c =
 pub metqoraz-single-spec : {M : Type 1} → statement M
 metqoraz-single-spec =
     tie.close
-    (tie.spec single-for-requires enum-known-x enum-known-why coded-refusal-requires returns returns-2)
+    (tie.spec (λ c κs. search needs) (λ c. search needs) (λ c. search needs) (λ c κs. search needs) returns returns-2)

@@ -8,26 +8,11 @@ use borrow.Author.Needs.{needs}
 use Rattle.exports.proofs.buckets.metqoraz_trial.Statement.{statement}
 use Rattle.exports.proofs.buckets.metqoraz_trial.Tie as tie
 
-trial-for-requires : tie.Need-trial-for-requires
-trial-for-requires c κs = search needs
-
-enum-known-x : tie.Need-enum-known-x
-enum-known-x c = search needs
-
-enum-known-why : tie.Need-enum-known-why
-enum-known-why c = search needs
-
-coded-refusal-requires : tie.Need-coded-refusal-requires
-coded-refusal-requires c κs = search needs
-
 returns : tie.Need-returns
 returns c =
     let w = c .before .before in
     let e = sym (w .before .before .trial-for .ensures) ∙ ap trialSays (w .why .given .1) in
     (code-refused _ (λ t. t .over) _ _ e (c .coded-refusal .ensures), number-kept _ (λ t. t .spare) _ _ e)
-
-cast-result : tie.Need-cast-result
-cast-result c = search needs
 
 returns-2 : tie.Need-returns-2
 returns-2 c =
@@ -38,4 +23,11 @@ returns-2 c =
 pub metqoraz-trial-spec : {M : Type 1} → statement M
 metqoraz-trial-spec =
     tie.close
-    (tie.spec trial-for-requires enum-known-x enum-known-why coded-refusal-requires returns cast-result returns-2)
+    (tie.spec
+    (λ c κs. search needs)
+    (λ c. search needs)
+    (λ c. search needs)
+    (λ c κs. search needs)
+    returns
+    (λ c. search needs)
+    returns-2)

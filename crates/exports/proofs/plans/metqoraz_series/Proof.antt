@@ -7,18 +7,6 @@ use borrow.Author.Needs.{needs}
 use Rattle.exports.proofs.plans.metqoraz_series.Statement.{statement}
 use Rattle.exports.proofs.plans.metqoraz_series.Tie as tie
 
-plan-any-requires : tie.Need-plan-any-requires
-plan-any-requires c κs = search needs
-
-enum-known-answer : tie.Need-enum-known-answer
-enum-known-answer c = search needs
-
-enum-known-answer-2 : tie.Need-enum-known-answer-2
-enum-known-answer-2 c = search needs
-
-coded-refusal-requires : tie.Need-coded-refusal-requires
-coded-refusal-requires c κs = search needs
-
 returns : tie.Need-returns
 returns c =
     let a = c .before in
@@ -33,4 +21,5 @@ returns-2 c =
 
 pub metqoraz-series-spec : {M : Type 1} → statement M
 metqoraz-series-spec =
-    tie.close (tie.spec plan-any-requires enum-known-answer enum-known-answer-2 coded-refusal-requires returns returns-2)
+    tie.close
+    (tie.spec (λ c κs. search needs) (λ c. search needs) (λ c. search needs) (λ c κs. search needs) returns returns-2)

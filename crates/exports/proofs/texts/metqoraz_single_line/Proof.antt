@@ -5,20 +5,13 @@ use borrow.Author.Needs.{needs}
 use Rattle.exports.proofs.texts.metqoraz_single_line.Statement.{statement}
 use Rattle.exports.proofs.texts.metqoraz_single_line.Tie as tie
 
-single-line-requires : tie.Need-single-line-requires
-single-line-requires c κs = search needs
-
-coded-fill-requires : tie.Need-coded-fill-requires
-coded-fill-requires c κs = search needs
-
-same-length : tie.Need-same-length
-same-length c = search needs
-
-returns : tie.Need-returns
-returns c =
-    let e = c .before .before .before .single-line .ensures in
-    (c .coded-fill .ensures ∙ ap coded (e .0), e .1)
-
 pub metqoraz-single-line-spec : {M : Type 1} → statement M
 metqoraz-single-line-spec =
-    tie.close (tie.spec single-line-requires coded-fill-requires same-length returns)
+    tie.close
+    (tie.spec
+    (λ c κs. search needs)
+    (λ c κs. search needs)
+    (λ c. search needs)
+    (λ c.
+    let e = c .before .before .before .single-line .ensures in
+    (c .coded-fill .ensures ∙ ap coded (e .0), e .1)))
