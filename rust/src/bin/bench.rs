@@ -104,8 +104,8 @@ fn table(title: &str, fees: &[u32], digits: usize, ratio: impl Fn(&Case) -> f64)
     }
 }
 
-/// The series against the plain programme and the yardstick, the sheet against the series, and the single bucket against
-/// the plain search.
+/// The series against the plain programme and the yardstick, the sheet against the series,
+/// and the single bucket against the plain search.
 fn ratio_tables() {
     table("Series: plain / product", &FEES, 1, Case::against_plain);
     table("Series: product / the same algorithm in Rust", &FEES, 2, Case::against_yardstick);
