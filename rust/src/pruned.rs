@@ -1,5 +1,5 @@
 //! The product's own series in Rust, pruning included: the yardstick for its compiled code. The functions are those of
-//! crates/series and crates/single, one for one; docs/PERFORMANCE.md says what each stop rests on.
+//! crates/first_runs, crates/series and crates/single, one for one; docs/ARCHITECTURE.md says what each stop rests on.
 
 use crate::paper::terms::{weigh_order, Bucket, Plan, Record, Tariff, PERIODS_MAX};
 use crate::paper::{Answer, NO_PLAN};

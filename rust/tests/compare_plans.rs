@@ -122,7 +122,8 @@ fn series_whose_walks_stop_are_alike() {
     tally.expect(&[0, 7], 50);
 }
 
-/// Orders of 512 periods with a full rate cap, where the plain programme takes a second or more: each seed makes one call.
+/// Orders of 512 periods with a full rate cap, where the plain programme takes a second or more:
+/// each seed makes one call.
 #[test]
 fn the_longest_series_are_alike() {
     for_seeds(3_500_000, 12, |seed| {

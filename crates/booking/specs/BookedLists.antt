@@ -1,5 +1,5 @@
--- Booking on number lists: whatever lent lists of bucket records have those lengths, the claim holds of them once the records are
--- stored; and which records those are.
+-- Booking on number lists: whatever lent lists of bucket records have those lengths, the claim holds of them once the
+-- records are stored; and which records those are.
 -- Assumes nothing.
 use Prim.Native.Nat.{ℕ, min, _≤_}
 use native.Mathlib.Omega.{arith}

@@ -1,5 +1,5 @@
--- What the list of calls gives: the order's own figures and demands, the series answer for them, the same plan read back, and
--- meters that refuse and discard nothing.
+-- What the list of calls gives: the order's own figures and demands, the series answer for them, the same plan read
+-- back, and meters that refuse and discard nothing.
 -- Assumes nothing.
 use Prim.Native.Nat.{ℕ, zero, suc, _+_, _/_, _^_, _≤_, _<_}
 use native.Mathlib.Omega.{arith}

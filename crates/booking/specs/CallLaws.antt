@@ -1,5 +1,5 @@
--- The list of calls on number lists, which hold the figures of the records: what it answers depends on the lengths of what is
--- lent alone, and what it leaves, call by call.
+-- The list of calls on number lists, which hold the figures of the records: what it answers depends on the lengths of
+-- what is lent alone, and what it leaves, call by call.
 -- Assumes nothing.
 use Prim.Native.Nat.{ℕ}
 use mathlib.Core.Path.{_≡_, refl, sym, ap, subst, _∙_}

@@ -1,5 +1,6 @@
--- The claim holds of whatever answers as the list of calls does and leaves what it leaves. Where an order is read and what is
--- lent is long enough, the series call alone decides: it finds no cutting, and there is none, or every step after it succeeds.
+-- The claim holds of whatever answers as the list of calls does and leaves what it leaves. Where an order is read and
+-- what is lent is long enough, the series call alone decides: it finds no cutting, and there is none,
+-- or every step after it succeeds.
 -- Assumes nothing.
 use Prim.Native.Nat.{ℕ, _≤_}
 use mathlib.Core.Path.{_≡_, refl, sym, ap, ap₂, subst, _∙_}

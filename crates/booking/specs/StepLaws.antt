@@ -1,4 +1,5 @@
--- The list of calls step by step: once a plan is written no later call refuses, and what each call gave where none refuses.
+-- The list of calls step by step: once a plan is written no later call refuses,
+-- and what each call gave where none refuses.
 -- Assumes nothing.
 use Prim.Native.Nat.{ℕ, _≤_}
 use native.Mathlib.Omega.{arith}

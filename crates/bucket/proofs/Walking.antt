@@ -1,4 +1,5 @@
--- What a trial's walk keeps after i periods: the figures so far, carried on over the rest of the trace, are those of the whole.
+-- What a trial's walk keeps after i periods: the figures so far, carried on over the rest of the trace,
+-- are those of the whole.
 -- Assumes nothing.
 use Prim.Native.Nat.{ℕ, _+_, _*_, _≤_, _<_}
 use native.Mathlib.Omega.{arith}

@@ -61,7 +61,8 @@ pub lighter-self : (ds : List ℕ) → Lighter ds ds
 lighter-self [] = none
 lighter-self (d ∷ ds) = more (le-refl d) (lighter-self ds)
 
--- One period with at least the rate, the depth and the tokens, and at most the demand, still has nothing over and holds at least as much.
+-- One period with at least the rate, the depth and the tokens, and at most the demand,
+-- still has nothing over and holds at least as much.
 period-more : (r s B C y z d e : ℕ) → r ≤ s → B ≤ C → y ≤ z → d ≤ e → over r y e ≡ 0 → (over s z d ≡ 0) × (held r B y e ≤ held s C z d)
 period-more r s B C y z d e hr hB hy hd k =
     let f : e ≤ y + r = omega arith in

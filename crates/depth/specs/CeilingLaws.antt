@@ -1,4 +1,5 @@
--- The division law of the starting tokens: N × q / p rounded up is the least depth B with p × B / q, rounded down, at least N.
+-- The division law of the starting tokens: N × q / p rounded up is the least depth B with p × B / q, rounded down,
+-- at least N.
 -- Assumes nothing.
 use Prim.Native.Nat.{ℕ, zero, suc, _+_, _-_, _*_, _/_, _≤_, _<_}
 use native.Mathlib.Omega.{arith}
@@ -33,7 +34,8 @@ le-ceiling x (suc p) B C h k =
     let l : x + (suc p - 1) < (B + 1) * suc p = div-lt-iff-lt-mul z .0 (omega arith) in
     omega arith
 
--- The law: where a fresh bucket of some depth C holds N tokens, one of depth B does exactly when N × q / p rounded up is at most B.
+-- The law: where a fresh bucket of some depth C holds N tokens,
+-- one of depth B does exactly when N × q / p rounded up is at most B.
 module _ (p q N : ℕ) (h : 1 ≤ q) where
   pub start-ceiling : (B : ℕ) → N ≤ startOf p q B → ceiling (N * q) p ≤ B
   start-ceiling B k = ceiling-le (N * q) p B (start-holds p q N B h k)

@@ -13,8 +13,8 @@ use Rattle.bucket.specs.Trace.{carries}
 use Rattle.depth.specs.declared.depths.DepthAnswer.{DepthAnswer}
 use Rattle.depth.specs.declared.depths.DepthAnswer.the-variants.{Found, Refused}
 
--- The first of the n numbers b, b + 1, .. that passes a test, or refusal 7. (What a `let` binds is worked out only if it is
--- asked for, so the search ends where it finds.)
+-- The first of the n numbers b, b + 1, .. that passes a test, or refusal 7. (What a `let` binds is worked out only if
+-- it is asked for, so the search ends where it finds.)
 unfoldable pub firstFrom : (ℕ → Bool) → ℕ → ℕ → Answer ℕ
 firstFrom test zero b = refused 7
 firstFrom test (suc n) b = let rest = firstFrom test n (suc b) in cond (test b) (figures b) rest

@@ -1,5 +1,5 @@
--- The depth answer is the smallest depth inside the cap that carries the trace, refusal 7 is given exactly when there is
--- none, and one walk gives it.
+-- The depth answer is the smallest depth inside the cap that carries the trace,
+-- refusal 7 is given exactly when there is none, and one walk gives it.
 -- Assumes nothing.
 use Prim.Native.Nat.{ℕ, _+_, _*_, _≤_, max}
 use native.Mathlib.Omega.{arith}

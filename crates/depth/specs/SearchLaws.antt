@@ -1,4 +1,5 @@
--- A search from 0 to a cap gives the first number that passes the test, or refusal 7 where none does; and nothing else is that.
+-- A search from 0 to a cap gives the first number that passes the test, or refusal 7 where none does;
+-- and nothing else is that.
 -- Assumes nothing.
 use Prim.Native.Nat.{ℕ, zero, suc, _+_, _≤_, _<_}
 use native.Mathlib.Omega.{arith}

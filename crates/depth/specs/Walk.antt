@@ -33,8 +33,8 @@ walkOf r ds = foldl (pushed r) started ds
 unfoldable pub ceiling : ℕ → ℕ → ℕ
 ceiling x p = (x + (p - 1)) / p
 
--- A bucket as deep as the cap meets the needs: it holds the stretch, and it starts with the opening, which is so exactly when
--- opening × q ≤ p × cap.
+-- A bucket as deep as the cap meets the needs: it holds the stretch, and it starts with the opening,
+-- which is so exactly when opening × q ≤ p × cap.
 abbrev pub capMeets : ℕ → ℕ → ℕ → Walk → Bool
 capMeets p q cap w = leb (w .stretch) cap && leb (w .opening * q) (p * cap)
 

@@ -1,5 +1,5 @@
--- What a bucket costs in a period, without the fee (01, "Single": rate price × r + depth price × B), and from which such charge
--- on a walk through a trace can stop.
+-- What a bucket costs in a period, without the fee (01, "Single": rate price × r + depth price × B), and from which
+-- such charge on a walk through a trace can stop.
 -- Assumes nothing.
 use Prim.Native.Nat.{ℕ, _+_, _*_, _≤_, _<_}
 use mathlib.Core.Path.{_≡_}
@@ -29,7 +29,8 @@ abbrev pub chargeAt : Tariff → ℕ → Answer ℕ → ℕ
 chargeAt t r (figures B) = chargeOf t r B
 chargeAt t r (refused n) = noCharge
 
--- One period more of a walk at rate `high`: its charge is that of rate `low` with the depth that the periods walked need.
+-- One period more of a walk at rate `high`: its charge is that of rate `low` with the depth that the periods walked
+-- need.
 pub record Stepped (t : Tariff) (high low d : ℕ) (old new : Charged) : Type 0 where
   pub walked : new .walk ≡ pushed high (old .walk) d
   pub charged : new .charge ≡ chargeAt t low (walkDepth t (new .walk))
@@ -45,8 +46,9 @@ pub record StopsAt (known rest periods stop : ℕ) : Type 0 where
   pub few : stop ≤ unpriced + 1
   pub beyond : (charge : ℕ) → stop ≤ charge → known < charge * periods + rest
 
--- By the length of a first run, less 1, the charges at which a walk can stop: no run of that length or longer, with the best
--- cutting of what is left, costs as little as what is known. `costs` holds what the best cuttings of what is left cost.
+-- By the length of a first run, less 1, the charges at which a walk can stop: no run of that length or longer, with the
+-- best cutting of what is left, costs as little as what is known.
+-- `costs` holds what the best cuttings of what is left cost.
 pub record Stops (fee known : ℕ) (costs stops : List ℕ) : Type 0 where
   pub room : length costs ≤ length stops
   pub below : (i : ℕ) → i < length costs → getD stops i 0 < noCharge

@@ -1,5 +1,5 @@
--- A walk's charge is the least at every rate up to the walk's and for every longer run: a faster bucket needs no more depth, a
--- longer run no less. And the charges at which a walk can stop.
+-- A walk's charge is the least at every rate up to the walk's and for every longer run: a faster bucket needs no more
+-- depth, a longer run no less. And the charges at which a walk can stop.
 -- Assumes nothing.
 use Prim.Native.Nat.{ℕ, zero, suc, _+_, _-_, _*_, _/_, _≤_, _<_, max}
 use native.Mathlib.Omega.{arith}
@@ -50,8 +50,8 @@ raised s c u l =
     (max-le (le-max-right (max s c) u) (le-trans (le-max-right s c) (le-max-left (max s c) u)))
 
 module _ (t : Tariff) (ds : List ℕ) where
-  -- Whatever bucket with a rate from low to high serves a run, it costs at least the low rate with the depth that the high one
-  -- needs for the run's front.
+  -- Whatever bucket with a rate from low to high serves a run,
+  -- it costs at least the low rate with the depth that the high one needs for the run's front.
   pub charge-least : (low high r i j B : ℕ) → low ≤ r → r ≤ high → i ≤ j → Serves t (take j ds) (bucketOf r B)
       → chargeAt t low (tariffDepth t high (take i ds)) ≤ chargeOf t r B
   charge-least low high r i j B l m n s =
@@ -165,7 +165,8 @@ stops-at known rest n some l =
 pub stops-at-once : (known rest n : ℕ) → known < rest → StopsAt known rest n 0
 stops-at-once known rest n l = record { few = omega arith; beyond = λ c m. omega arith }
 
--- What is known of the list once it is filled from the end down to the entry `from`, the last entry filled being `charge`.
+-- What is known of the list once it is filled from the end down to the entry `from`,
+-- the last entry filled being `charge`.
 pub record Stopping (fee known : ℕ) (costs : List ℕ) (from charge : ℕ) (stops : List ℕ) : Type 0 where
   pub few : charge < noCharge
   pub all : (j c : ℕ) → from ≤ j → j < length costs → charge ≤ c → known < c * (j + 1) + fee + getD costs j 0

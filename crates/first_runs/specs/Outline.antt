@@ -16,8 +16,8 @@ unpriced = 1000000000000000000
 abbrev pub noOutline : Outline
 noOutline = record { cost = unpriced; buckets = 0; first = 0 }
 
--- The outline of a cutting whose first run has i + 1 periods and costs c. By i the lists hold the cost and the buckets of the
--- best cutting of what is left.
+-- The outline of a cutting whose first run has i + 1 periods and costs c.
+-- By i the lists hold the cost and the buckets of the best cutting of what is left.
 abbrev pub begun : List ℕ → List ℕ → ℕ → ℕ → Outline
 begun costs counts i c = record { cost = c + getD costs i 0; buckets = getD counts i 0 + 1; first = i + 1 }
 

@@ -1,5 +1,5 @@
--- The search from one start on finds the outline of the best cutting: what it has weighed, or shown to cost more than what is
--- found, is not chosen before what is found.
+-- The search from one start on finds the outline of the best cutting: what it has weighed, or shown to cost more than
+-- what is found, is not chosen before what is found.
 -- Assumes nothing.
 use Prim.Native.Nat.{ℕ, _+_, _*_, _≤_, _<_}
 use native.Mathlib.Omega.{arith}

@@ -25,7 +25,8 @@ use Rattle.meter.specs.declared.meters.Meter.{Meter}
 use Rattle.meter.specs.Meter.{offerOf, recordAfter, freshMeter, openOf, afterOffers, accepted, offersOf, meterRun, meterOn}
 use Rattle.meter.specs.MeterLaws.{Sound, open-fresh, sound-meter, offer-full, offer-taken, taken-sound, sound-never-8}
 
--- The record m once the demands ds have all been accepted: each figure is that of the definitions, on top of what it was.
+-- The record m once the demands ds have all been accepted: each figure is that of the definitions,
+-- on top of what it was.
 abbrev pub advanced : Meter → List ℕ → Meter
 advanced m ds =
     let r = m .bucket .rate .0 in
@@ -150,7 +151,8 @@ module _ (b : Bucket) (f : Factor) (range : FreshRange b f) where
     pub opened-never-8 : (d : ℕ) → offerOf (afterOffers (freshMeter b f) ds) d ≡ refused 8 → ⊥
     opened-never-8 d e = sound-never-8 _ d (all .sound) e
 
-    -- On a trace of at most 1,000,000 periods every total is the definition's, and over is 0 exactly when the bucket carries the trace.
+    -- On a trace of at most 1,000,000 periods every total is the definition's,
+    -- and over is 0 exactly when the bucket carries the trace.
     pub opened-trace : length ds ≤ meterLimit → afterOffers (freshMeter b f) ds ≡ meterOn b f ds
     opened-trace l = first ∙ ap (meterOn b f) (take-all meterLimit ds l)
 

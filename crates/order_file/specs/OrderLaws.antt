@@ -1,5 +1,5 @@
--- The order file there and back: a written order reads back as the same figures and spreads to the same demands, and any
--- bytes that are read are what writing those figures gives.
+-- The order file there and back: a written order reads back as the same figures and spreads to the same demands, and
+-- any bytes that are read are what writing those figures gives.
 -- Assumes nothing.
 use Prim.Native.Nat.{ℕ, _+_, _*_, _/_, _%_, _≤_}
 use native.Mathlib.Omega.{arith}

@@ -1,4 +1,5 @@
--- What reading an order and spreading its trace gives and leaves: the order's own figures, and as many demands as its T.
+-- What reading an order and spreading its trace gives and leaves: the order's own figures,
+-- and as many demands as its T.
 -- Assumes nothing.
 use Prim.Native.Nat.{ℕ, min, _/_, _≤_}
 use native.Mathlib.Omega.{arith}

@@ -1,5 +1,5 @@
--- What the calls on lent records store and load: as many records as buckets where a plan is read, and none on a refusal; the
--- records that are written from.
+-- What the calls on lent records store and load: as many records as buckets where a plan is read,
+-- and none on a refusal; the records that are written from.
 -- Assumes nothing.
 use Prim.Native.Nat.{ℕ, min, _≤_}
 use native.Mathlib.Omega.{arith}

@@ -121,8 +121,8 @@ planSays (Refused x) = refused (numberOf x)
 
 -- ---- Writing
 
--- The file of the records xs, which stand at the front of a list of `space` entries, in `room` bytes. 3: T and k; 5: the cost;
--- 6: a list under k, whose records are not weighed; 5: the records; 6: bytes fewer than the file.
+-- The file of the records xs, which stand at the front of a list of `space` entries, in `room` bytes. 3: T and k; 5:
+-- the cost; 6: a list under k, whose records are not weighed; 5: the records; 6: bytes fewer than the file.
 unfoldable pub planFile : ℕ → ℕ → PlanFigures → Cutting → Answer (List ℕ)
 planFile space room x xs =
     weigh (countsOk (x .periods) (x .buckets)) 3

@@ -1,5 +1,5 @@
--- The plan file there and back: a written plan reads back as the same figures and records, and any bytes that are read are
--- what writing those figures and records gives.
+-- The plan file there and back: a written plan reads back as the same figures and records, and any bytes that are read
+-- are what writing those figures and records gives.
 -- Assumes nothing.
 use Prim.Native.Nat.{ℕ, zero, suc, _+_, _*_, _≤_, _<_}
 use native.Mathlib.Nat.{le-refl}

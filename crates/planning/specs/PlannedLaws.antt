@@ -1,4 +1,5 @@
--- What the calls up to planning give: the series answer for the order's demands, whose records keep the rules of a plan.
+-- What the calls up to planning give: the series answer for the order's demands,
+-- whose records keep the rules of a plan.
 -- Assumes nothing.
 use Prim.Native.Nat.{ℕ, _≤_}
 use native.Mathlib.Omega.{arith}

@@ -2,7 +2,8 @@
 --     array-in     the cell of a local `[T; n]`, and what the array owns, are its elements in memory
 --     array-room   elements in memory are room for the array: the local can be freed
 --     lends-mut    the elements are lent as a `&κ mut [T]`           mut-back    they are back, at the last list
---     lends-imm    the elements are lent as a `&κ [T]`, at the whole share; `Types/Tokens.antt`'s `lent-back` gives them back
+--     lends-imm    the elements are lent as a `&κ [T]`, at the whole share;
+--                  `Types/Tokens.antt`'s `lent-back` gives them back
 -- Assumes `Given`.
 use mathlib.Core.Path.{refl, sym, subst}
 use Prim.Native.Nat.{ℕ}

@@ -1,11 +1,15 @@
--- The first k elements of a local array of n, lent as a slice, by `&mut` and by `&`, while the rest stays with the array.
--- It says nothing of the crate: T is any type, and n and k any numbers. `Lent.antt`'s `array-in` makes the elements of a
--- local array's cell, and what is here goes on from there.
+-- The first k elements of a local array of n, lent as a slice, by `&mut` and by `&`, while the rest stays with the
+-- array. It says nothing of the crate: T is any type, and n and k any numbers. `Lent.antt`'s `array-in` makes the
+-- elements of a local array's cell, and what is here goes on from there.
 --     Rest             the elements after the first k, which are not lent
---     cuts, joins      the elements are the first k and the rest, and k others with that rest are elements of such an array
---     lends-front-mut  the first k are lent as a `&κ mut [T]`        front-back-mut  κ is over: they are back, at the last list
---     lends-front-imm  the first k are lent as a `&κ [T]`            front-back-imm  κ is over: they are back
---     array-out        the elements are the local's cell again, at some value that is such an array: it can be loaded whole
+--     cuts, joins      the elements are the first k and the rest,
+--                      and k others with that rest are elements of such an array
+--     lends-front-mut  the first k are lent as a `&κ mut [T]`
+--     front-back-mut   κ is over: they are back, at the last list
+--     lends-front-imm  the first k are lent as a `&κ [T]`
+--     front-back-imm   κ is over: they are back
+--     array-out        the elements are the local's cell again, at some value that is such an array:
+--                      it can be loaded whole
 --     field-is         an array of a declared type is one where it is a field of a struct
 -- Assumes `Given`.
 use mathlib.Core.Path.{_≡_, refl, sym, _∙_, ap, subst}

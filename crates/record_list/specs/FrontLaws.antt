@@ -1,5 +1,5 @@
--- A list whose first items are taken from another list: the form a list has while a loop fills it. That it grows item by
--- item, keeps its length, and ends as the contracts of the copies state it.
+-- A list whose first items are taken from another list: the form a list has while a loop fills it. That it grows item
+-- by item, keeps its length, and ends as the contracts of the copies state it.
 -- Assumes nothing.
 use Prim.Native.Nat.{ℕ, zero, suc, _<_, _≤_, _+_}
 use native.Mathlib.Nat.{not-suc-le-zero, le-of-suc-le-suc}

@@ -1,5 +1,5 @@
--- Bucket records in three number lists, a list for each figure: the form in which the covered functions behind the calls
--- work on records.
+-- Bucket records in three number lists, a list for each figure:
+-- the form in which the covered functions behind the calls work on records.
 -- Assumes nothing.
 use Prim.Native.Nat.{ℕ, min, _≤_}
 use mathlib.Core.Path.{_≡_}

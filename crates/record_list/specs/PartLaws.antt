@@ -1,5 +1,5 @@
--- The records of three lists gone through in order beside a trace that their runs make up: which are left, where a run's part of
--- the trace begins, and that it is inside the trace.
+-- The records of three lists gone through in order beside a trace that their runs make up: which are left, where a
+-- run's part of the trace begins, and that it is inside the trace.
 -- Assumes nothing.
 use Prim.Native.Nat.{ℕ, _+_, _-_, _≤_, _<_}
 use native.Mathlib.Omega.{arith}

@@ -38,8 +38,8 @@ use Rattle.recording.specs.Recording.{Recording, written, readBack, mete
 abbrev pub withMeters : PlanFigures → ℕ → MeterTotals → Booking
 withMeters x n t = record { plan = x; length = n; meters = t }
 
--- What recording a plan answers that is read back into a list of `space` records, and what the bytes and the lists of figures
--- then hold, after a refusal what they held; `file` is what writing it gives.
+-- What recording a plan answers that is read back into a list of `space` records, and what the bytes and the lists of
+-- figures then hold, after a refusal what they held; `file` is what writing it gives.
 pub record RecordsPlan (x : PlanFigures) (file : Answer (List ℕ)) (f : Factor) (ds : List ℕ) (bytes : List ℕ) (space : ℕ) (back : RecordLists) (bytes′ : List ℕ) (back′ : RecordLists) (answer : Answer Booking) : Type 0 where
   pub answers : answer ≡ onFigures bookingOf (recording space x file f ds)
   pub writes : bytes′ ≡ filled (onFigures (λ y. y .file) (recording space x file f ds)) bytes

@@ -1,5 +1,5 @@
--- Periods cut into runs with something chosen for each run, whatever that is (01, "Series"). All that is known of a choice x
--- is the length of its run, `periods x`, and its price, `price x`.
+-- Periods cut into runs with something chosen for each run, whatever that is (01, "Series"). All that is known of a
+-- choice x is the length of its run, `periods x`, and its price, `price x`.
 -- Assumes nothing.
 use Prim.Native.Nat.{ℕ, zero, suc, _≤_}
 use mathlib.Core.Path.{_≡_}
@@ -50,11 +50,11 @@ joined (figures x) (figures xs) = figures (x ∷ xs)
 joined (figures x) (refused n) = refused n
 joined (refused n) rest = refused n
 
--- The best cutting where each run has its own `choice`. That no other does better, whatever is chosen for its runs, is a law
--- (`CuttingLaws.bests-are`).
+-- The best cutting where each run has its own `choice`. That no other does better, whatever is chosen for its runs,
+-- is a law (`CuttingLaws.bests-are`).
 module _ {X : Type 0} (periods price : X → ℕ) (choice : List ℕ → Answer X) where
-  -- The best of the cuttings that begin with a run of 1, 2, .. or k periods. What follows the run is in the list `rests`: the
-  -- best for what is left after 1, 2, .. periods.
+  -- The best of the cuttings that begin with a run of 1, 2, .. or k periods. What follows the run is in the list
+  -- `rests`: the best for what is left after 1, 2, .. periods.
   unfoldable pub bestFirst : List ℕ → List (Answer (List X)) → ℕ → Answer (List X)
   bestFirst ds rests zero = refused 7
   bestFirst ds rests (suc k) = choose (wins periods price) (bestFirst ds rests k) (joined (choice (take (suc k) ds)) (getD rests k (refused 7)))

@@ -1,5 +1,5 @@
--- The outline of the best cutting of what is left of a trace, which the search keeps: its cost, its buckets and its first run's
--- length.
+-- The outline of the best cutting of what is left of a trace, which the search keeps: its cost,
+-- its buckets and its first run's length.
 -- Assumes nothing.
 use lib.ListN.{length}
 use Rattle.terms.specs.declared.Tariff.{Tariff}

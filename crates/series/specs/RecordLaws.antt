@@ -1,5 +1,5 @@
--- How the records are stored one by one: the first run is the one kept for its start, its bucket is the single answer on its
--- own part of the trace, and what follows is the best cutting from its end on.
+-- How the records are stored one by one: the first run is the one kept for its start, its bucket is the single answer
+-- on its own part of the trace, and what follows is the best cutting from its end on.
 -- Assumes nothing.
 use Prim.Native.Nat.{ℕ, suc, _+_, _≤_, _<_}
 use native.Mathlib.Omega.{arith}

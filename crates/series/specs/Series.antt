@@ -1,6 +1,6 @@
 -- The cheapest cutting of a trace into runs with a bucket each (01, "Series"; refusals 3, 5, 6 and 7).
--- The search goes from the end of the trace to its start. That no carried cutting does better, whatever its runs and its
--- buckets, is a law (`SeriesLaws.series-cheapest`).
+-- The search goes from the end of the trace to its start. That no carried cutting does better, whatever its runs and
+-- its buckets, is a law (`SeriesLaws.series-cheapest`).
 -- Assumes nothing.
 use Prim.Native.Nat.{ℕ, _≤_}
 use mathlib.Core.Path.{_≡_}

@@ -1,7 +1,7 @@
--- The series answer is the least over all cuttings: it is carried, its cost is its true cost, no carried cutting costs less,
--- the same runs with other buckets included, and none is preferred; refusal 7 is given exactly when no cutting is carried.
--- The theorem about any choices for the runs (`CuttingLaws.bests-are`) gives it, since the single bucket is the cheapest
--- choice for its run.
+-- The series answer is the least over all cuttings: it is carried, its cost is its true cost, no carried cutting costs
+-- less, the same runs with other buckets included, and none is preferred; refusal 7 is given exactly when no cutting is
+-- carried. The theorem about any choices for the runs (`CuttingLaws.bests-are`) gives it,
+-- since the single bucket is the cheapest choice for its run.
 -- Assumes nothing.
 use Prim.Native.Nat.{ℕ, _≤_}
 use native.Mathlib.Omega.{arith}

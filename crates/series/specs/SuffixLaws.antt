@@ -1,5 +1,5 @@
--- What the search keeps, from each period on; that what is found from one start on is the best cutting's outline; and how
--- one more period is added in front.
+-- What the search keeps, from each period on; that what is found from one start on is the best cutting's outline;
+-- and how one more period is added in front.
 -- Assumes nothing.
 use Prim.Native.Nat.{ℕ, suc, _+_, _-_, _≤_, _<_}
 use native.Mathlib.Omega.{arith}

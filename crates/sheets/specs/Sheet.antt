@@ -14,7 +14,8 @@ use Rattle.text.specs.Lines.{planLine, bucketLine}
 use Rattle.text.specs.Fitted.{fitted}
 use Rattle.planning.specs.Planning.{Planned, planned}
 
--- A run's line: its first and last period, its bucket, and the spare of that bucket, fresh with the factor, on the run's own demands.
+-- A run's line: its first and last period, its bucket, and the spare of that bucket, fresh with the factor,
+-- on the run's own demands.
 abbrev pub runLine : Factor → ℕ → Bucket → List ℕ → List ℕ
 runLine f first b ds = bucketLine first (first + length ds - 1) b (trialFigures b f ds .spare)
 
@@ -28,7 +29,7 @@ abbrev pub sheetText : Planned → List ℕ
 sheetText x =
     planLine (x .order .periods) (length (x .cutting)) (trueCost (x .order .tariff) (x .cutting)) ++ runLines (x .order .tariff .factor) 1 (x .demands) (x .cutting)
 
--- The sheet of an order's bytes, in `room` bytes: 1 to 5 as reading gives it, 7 where there is no cutting, then 6. The plan has the
--- 512 entries that any order needs.
+-- The sheet of an order's bytes, in `room` bytes: 1 to 5 as reading gives it, 7 where there is no cutting, then 6. The
+-- plan has the 512 entries that any order needs.
 abbrev pub sheetIn : ℕ → List ℕ → Answer (List ℕ)
 sheetIn room bs = andThen (planned traceLimit traceLimit bs) (λ x. fitted room (sheetText x))

@@ -1,5 +1,5 @@
--- The sheet of a plan that was found: its runs can be printed, it fits the longest text, and what is printed from the lists is the
--- definition's.
+-- The sheet of a plan that was found: its runs can be printed, it fits the longest text,
+-- and what is printed from the lists is the definition's.
 -- Assumes nothing.
 use Prim.Native.Nat.{ℕ, _≤_}
 use native.Mathlib.Omega.{arith}

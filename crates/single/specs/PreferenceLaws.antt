@@ -1,4 +1,5 @@
--- "Not preferred" is a total preorder, and no bucket is preferred that is at least as large in rate and depth, or dearer.
+-- "Not preferred" is a total preorder, and no bucket is preferred that is at least as large in rate and depth,
+-- or dearer.
 -- Assumes nothing.
 use Prim.Native.Nat.{ℕ, _≤_, _<_}
 use native.Mathlib.Omega.{arith}

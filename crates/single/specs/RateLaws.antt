@@ -1,5 +1,5 @@
--- Rates that need not be weighed: those above the greatest demand, since at that demand depth 0 carries and a larger bucket is
--- never preferred; and those that cost more even at depth 0 than a bucket that is found.
+-- Rates that need not be weighed: those above the greatest demand, since at that demand depth 0 carries and a larger
+-- bucket is never preferred; and those that cost more even at depth 0 than a bucket that is found.
 -- Assumes nothing.
 use Prim.Native.Nat.{ℕ, zero, suc, _+_, _-_, _≤_, _<_}
 use native.Mathlib.Omega.{arith}

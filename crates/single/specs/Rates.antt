@@ -21,8 +21,8 @@ greatest (d ∷ ds) = max d (greatest ds)
 abbrev pub weighed : Tariff → List ℕ → ℕ
 weighed t ds = min (t .«rate_cap» .0) (greatest ds) + 1
 
--- A bucket costs more than what is found, if anything is. Where the bucket of depth 0 at a rate does, no larger rate need be
--- weighed (`RateLaws.dearer-enough`).
+-- A bucket costs more than what is found, if anything is. Where the bucket of depth 0 at a rate does,
+-- no larger rate need be weighed (`RateLaws.dearer-enough`).
 abbrev pub dearer : Priced → Answer Priced → Bool
 dearer y (figures x) = ltb (x .cost) (y .cost)
 dearer y (refused n) = false

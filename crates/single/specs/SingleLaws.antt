@@ -1,5 +1,5 @@
--- The single answer is the least over all pairs: no bucket inside the caps that carries the trace is preferred to it, so none
--- costs less; and refusal 7 is given exactly when no bucket inside the caps carries the trace.
+-- The single answer is the least over all pairs: no bucket inside the caps that carries the trace is preferred to it,
+-- so none costs less; and refusal 7 is given exactly when no bucket inside the caps carries the trace.
 -- Assumes nothing.
 use Prim.Native.Nat.{ℕ, _≤_, _<_}
 use native.Mathlib.Omega.{arith}
@@ -21,8 +21,8 @@ use Rattle.single.specs.PreferenceLaws.{not-preferred-cost, preferred-to
 use Rattle.single.specs.BestLaws.{At, IsBestOf, here, with-rate, none-before, best-is}
 use Rattle.single.specs.Single.{Serves, cheapestOf, singleOf}
 
--- x is the single bucket of the trace: it is inside the caps and carries the trace, its cost is its own, and no bucket inside
--- the caps that carries the trace is preferred to it.
+-- x is the single bucket of the trace: it is inside the caps and carries the trace, its cost is its own, and no bucket
+-- inside the caps that carries the trace is preferred to it.
 pub record CheapestBucket (t : Tariff) (ds : List ℕ) (x : Priced) : Type 0 where
   pub serves : Serves t ds (x .bucket)
   pub paid : x .cost ≡ costOf t (length ds) (x .bucket)

@@ -1,4 +1,5 @@
--- Laws of tests: a conjunction that is true, a bound by the smaller of two, and a branch on the negation of a call's answer.
+-- Laws of tests: a conjunction that is true, a bound by the smaller of two,
+-- and a branch on the negation of a call's answer.
 -- Assumes nothing.
 use Prim.Native.Nat.{ℕ, min}
 use native.Mathlib.Nat.{le-trans, le-min, min-le-left, min-le-right}
@@ -48,7 +49,8 @@ leb-min n a b = go (leb n (min a b)) refl
         let k = and-both (leb n a) (leb n b) h in
         true-false (le-leb n (min a b) (le-min (leb-true n a (k .0)) (leb-true n b (k .1)))) e)
 
--- After `if !check(..) { return .. }`, with a the call's answer and b what it promises: what holds past the branch and in it.
+-- After `if !check(..) { return .. }`, with a the call's answer and b what it promises:
+-- what holds past the branch and in it.
 pub check-passed : {a b : Bool} → a ≡ b → not a ≡ false → b ≡ true
 check-passed e h = sym e ∙ not-false _ h
 

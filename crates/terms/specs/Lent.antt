@@ -1,5 +1,5 @@
--- What lent lists and bytes hold after a call (01, "Series", "The two files": a front is filled, what lies after it keeps
--- its values; "Refusals by number": a refusal changes nothing lent).
+-- What lent lists and bytes hold after a call (01, "Series", "The two files": a front is filled, what lies after it
+-- keeps its values; "Refusals by number": a refusal changes nothing lent).
 -- Assumes nothing.
 use mathlib.Core.List.{List, _++_}
 use lib.ListN.{length, drop}

@@ -1,4 +1,5 @@
--- The limits of document 01, one table ("The bucket", "The tariff and its ranges", "The two files", "Refusals by number").
+-- The limits of document 01, one table ("The bucket", "The tariff and its ranges",
+-- "The two files", "Refusals by number").
 -- Assumes nothing.
 use Prim.Native.Nat.{ℕ}
 

@@ -1,5 +1,5 @@
--- Each range as orders of numbers, a field for each (01, "The tariff and its ranges"). That it is equivalent to its test
--- in `Ranges` is a law (`RangeLaws`).
+-- Each range as orders of numbers, a field for each (01, "The tariff and its ranges").
+-- That it is equivalent to its test in `Ranges` is a law (`RangeLaws`).
 -- Assumes nothing.
 use Prim.Native.Nat.{ℕ, _≤_}
 use Rattle.terms.specs.declared.Factor.{Factor}

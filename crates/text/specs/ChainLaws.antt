@@ -1,4 +1,5 @@
--- A line's fields, two to four of them, stored one behind the other: there is room for each, and together they are the line.
+-- A line's fields, two to four of them, stored one behind the other: there is room for each,
+-- and together they are the line.
 -- Assumes nothing.
 use Prim.Native.Nat.{ℕ}
 use mathlib.Core.List.{List, _++_}

@@ -1,5 +1,5 @@
--- The lines of the printed sheet (01, "The printed sheet": one space between fields, byte 10 after each line), and a line each for
--- the trial, the single bucket and a refusal.
+-- The lines of the printed sheet (01, "The printed sheet": one space between fields, byte 10 after each line), and a
+-- line each for the trial, the single bucket and a refusal.
 -- Assumes nothing.
 use Prim.Native.Nat.{ℕ}
 use mathlib.Core.List.{List, [], _∷_, _++_}

@@ -14,8 +14,8 @@ unfoldable pub digits : ℕ → ℕ → List ℕ
 digits zero n = []
 digits (suc k) n = digits k (n / 10) ++ (digit (n % 10) ∷ [])
 
--- A number below 10 is its digit; any other is its tenth part, rounded down, and then its last digit. The first argument counts
--- how many digits more there may be.
+-- A number below 10 is its digit; any other is its tenth part, rounded down, and then its last digit. The first
+-- argument counts how many digits more there may be.
 unfoldable pub numeralIn : ℕ → ℕ → List ℕ
 numeralIn zero n = digit n ∷ []
 numeralIn (suc more) n = cond (ltb n 10) (digit n ∷ []) (numeralIn more (n / 10) ++ (digit (n % 10) ∷ []))

@@ -32,7 +32,8 @@ pub numeral-large : (more n : ℕ) → 10 ≤ n → numeralIn (suc more) n ≡ n
 unfolding numeralIn
 numeral-large more n h = ap (λ (b : Bool). cond b (digit n ∷ []) (numeralIn more (n / 10) ++ (digit (n % 10) ∷ []))) (le-ltb n 10 h)
 
--- What holds of one digit, and of a number where it holds of its tenth part, holds of a number of at most `more` digits more.
+-- What holds of one digit, and of a number where it holds of its tenth part,
+-- holds of a number of at most `more` digits more.
 module _ (P : ℕ → ℕ → Type 0) (one : (more n : ℕ) → n < 10 → P more n) (next : (more n : ℕ) → 10 ≤ n → P more (n / 10) → P (suc more) n) where
   pub by-digits : (more n : ℕ) → n < 10 ^ suc more → P more n
   by-digits zero n h = one zero n (omega (arith, h))

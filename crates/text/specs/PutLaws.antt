@@ -84,8 +84,8 @@ pub sign-length : (z : ℤ) → ltZ z (pos 0) ≡ true → length (sign z) ≡ 1
 sign-length (pos n) h = absurd (omega (arith, ltb-true n 0 h))
 sign-length (negsuc n) h = refl
 
--- A figure's sign, whole part, point and thousandths, one behind the other. n is the figure without its sign; z′ is the figure as
--- its bits give it.
+-- A figure's sign, whole part, point and thousandths, one behind the other. n is the figure without its sign;
+-- z′ is the figure as its bits give it.
 module _ (old : List ℕ) (at : ℕ) (z : ℤ) (room : Room old at (megabits z)) (z′ : ℤ) (d : z′ ≡ z) where
   pub sign-room : Room old at (sign z′)
   sign-room =

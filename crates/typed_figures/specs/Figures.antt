@@ -1,5 +1,6 @@
--- The figures of an order in the order in which they are typed: the seven of the tariff (01, "The tariff and its ranges"), then
--- the demands. The most that each may be, and the tariff and the demands that they give.
+-- The figures of an order in the order in which they are typed: the seven of the tariff
+-- (01, "The tariff and its ranges"), then the demands. The most that each may be,
+-- and the tariff and the demands that they give.
 -- Assumes nothing.
 use Prim.Native.Nat.{ℕ, _+_}
 use mathlib.Core.Bool.{Bool, not, _||_}

@@ -1,5 +1,5 @@
 //! How fast the product's series, single and sheet are, as ratios in one run: against the plain dynamic programme of
-//! `paper`, and against the product's own algorithm in Rust. Prints the tables of docs/PERFORMANCE.md.
+//! `paper`, and against the product's own algorithm in Rust. Prints the appendix of docs/PERFORMANCE.md.
 
 use metqoraz::inputs::{trace, Seed, Shape};
 use metqoraz::paper::order::write_order;
@@ -92,7 +92,7 @@ fn grouped(number: u32) -> String {
 /// A table of ratios by T: a row for each shape, pair of prices (of rate and depth) and fee.
 fn table(title: &str, fees: &[u32], digits: usize, ratio: impl Fn(&Case) -> f64) {
     let columns = LENGTHS.map(|periods| format!("T = {periods}")).join(" | ");
-    println!("\n## {title}\n\n| trace | prices | fee | {columns} |\n|---|---|---|---|---|---|---|");
+    println!("\n### {title}\n\n| trace | prices | fee | {columns} |\n|---|---|---|---|---|---|---|");
     for shape in SHAPES {
         for prices in PRICES {
             for &fee in fees {
@@ -104,8 +104,8 @@ fn table(title: &str, fees: &[u32], digits: usize, ratio: impl Fn(&Case) -> f64)
     }
 }
 
-/// The series against the plain programme and the yardstick, the sheet against the series, and the single bucket against
-/// the plain search.
+/// The series against the plain programme and the yardstick, the sheet against the series,
+/// and the single bucket against the plain search.
 fn ratio_tables() {
     table("Series: plain / product", &FEES, 1, Case::against_plain);
     table("Series: product / the same algorithm in Rust", &FEES, 2, Case::against_yardstick);
@@ -115,12 +115,12 @@ fn ratio_tables() {
 
 /// How the product's time and the plain programme's grow with the trace and with the rate cap.
 fn growth_tables() {
-    println!("\n## Growth with T, rate cap 4,095, fee 100,000 (time at T = 64 is 1)\n");
+    println!("\n### Growth with T, rate cap 4,095, fee 100,000 (time at T = 64 is 1)\n");
     println!(
         "| trace | prices | product: 128 | 256 | 512 | plain: 128 | 256 | 512 |\n|---|---|---|---|---|---|---|---|"
     );
     growth(LENGTHS, |shape, prices, periods| case(shape, periods, prices, 100_000, 4_095));
-    println!("\n## Growth with the rate cap, T = 512, fee 100,000 (time at cap 511 is 1)\n");
+    println!("\n### Growth with the rate cap, T = 512, fee 100,000 (time at cap 511 is 1)\n");
     println!("| trace | prices | product: 1,023 | 2,047 | 4,095 | plain: 1,023 | 2,047 | 4,095 |");
     println!("|---|---|---|---|---|---|---|---|");
     growth(CAPS, |shape, prices, cap| case(shape, 512, prices, 100_000, cap));

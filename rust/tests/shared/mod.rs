@@ -120,7 +120,8 @@ pub fn printed_case() -> (Tariff, Vec<u16>) {
     (tariff, vec![4, 8, 2])
 }
 
-/// How often each answer was compared: figures under 0, refusals under their numbers. It shows that the inputs reach them.
+/// How often each answer was compared: figures under 0, refusals under their numbers.
+/// It shows that the inputs reach them.
 #[derive(Default)]
 pub struct Tally(RefCell<BTreeMap<u32, u32>>);
 

@@ -12,9 +12,9 @@ STORES = 'stores zeros (%s) answer was-booked count counted ' % NEW
 
 PROOFS = [Caller(
     'booking', 'bookings.book', '''
--- `booking::bookings::book` meets its contract. Six local arrays are lent to `book_lists`, which books with them, and then
--- to `store_records`, which stores as many records in each lent list as `buckets_of` says the answer has. Of the three
--- functions the proof knows only the contracts.
+-- `booking::bookings::book` meets its contract. Six local arrays are lent to `book_lists`, which books with them, and
+-- then to `store_records`, which stores as many records in each lent list as `buckets_of` says the answer has. Of the
+-- three functions the proof knows only the contracts.
 -- Assumes nothing.
 ''',
     params=['order', 'demands', 'list', 'bytes', 'back'],

@@ -19,9 +19,9 @@ def filling(mod, name, verb, does, inner, answer, says, of, cutting, shown, para
     before, after = '(lists zeros zeros zeros)', '(lists %slengths %srates %sdepths)'
     return Caller(
         'plans', '%s.%s' % (mod, name), '''
--- `plans::{0}::{1}` meets its contract. Three local arrays are lent to `{3}`, which {2} into them, and then
--- to `store_records`, which stores as many records in the lent list as `buckets_of` says the answer has. Of the three
--- functions the proof knows only the contracts.
+-- `plans::{0}::{1}` meets its contract. Three local arrays are lent to `{3}`, which {2} into them, and
+-- then to `store_records`, which stores as many records in the lent list as `buckets_of` says the answer has. Of the
+-- three functions the proof knows only the contracts.
 -- Assumes nothing.
 '''.format(mod, name, does, inner.split('::')[-1]),
         params=params, types=[RECORD] + types + [declared('enum', 'An', answer)], start=WIDE,
@@ -71,8 +71,9 @@ SAME = ('loaded-records (length bytes) figs list (lists zeros zeros zeros) (list
         'count counted loaded')
 WRITING = Caller(
     'plans', 'files.write_plan', '''
--- `plans::files::write_plan` meets its contract. As many records as `load_count` says are loaded from the lent list into three
--- local arrays, and `write_lists` writes the plan from these. Of the three functions the proof knows only the contracts.
+-- `plans::files::write_plan` meets its contract. As many records as `load_count` says are loaded from the lent list
+-- into three local arrays, and `write_lists` writes the plan from these.
+-- Of the three functions the proof knows only the contracts.
 -- Assumes nothing.
 ''',
     params=['figs', 'list', 'bytes'],

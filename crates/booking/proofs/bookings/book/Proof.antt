@@ -1,6 +1,6 @@
--- `booking::bookings::book` meets its contract. Six local arrays are lent to `book_lists`, which books with them, and then
--- to `store_records`, which stores as many records in each lent list as `buckets_of` says the answer has. Of the three
--- functions the proof knows only the contracts.
+-- `booking::bookings::book` meets its contract. Six local arrays are lent to `book_lists`, which books with them, and
+-- then to `store_records`, which stores as many records in each lent list as `buckets_of` says the answer has. Of the
+-- three functions the proof knows only the contracts.
 -- Assumes nothing.
 use mathlib.Core.Path.{_≡_, refl, _∙_, ap}
 use Prim.Native.Nat.{ℕ, zero, suc, _<_, _≤_, _^_}

@@ -1,4 +1,5 @@
--- The walk's invariant is `Walking`; each turn is one period of the definition, and at the end nothing of the trace is left.
+-- The walk's invariant is `Walking`; each turn is one period of the definition,
+-- and at the end nothing of the trace is left.
 use Prim.Native.Nat.{ℕ, _-_, _^_, _≤_, _<_}
 use native.Mathlib.Omega.{arith}
 use mathlib.Core.Path.{_≡_, _∙_, ap}

@@ -1,4 +1,5 @@
--- Each refusal is the first rule that its test finds broken; past both tests the depth read off the walk is the smallest that carries.
+-- Each refusal is the first rule that its test finds broken;
+-- past both tests the depth read off the walk is the smallest that carries.
 use Prim.Native.Nat.{ℕ, _≤_}
 use native.Mathlib.Omega.{arith}
 use native.Mathlib.Nat.{le-trans}

@@ -1,4 +1,5 @@
--- After i turns no run of 1 to i periods at these rates is chosen before what is found; where the walk stops, no longer one is.
+-- After i turns no run of 1 to i periods at these rates is chosen before what is found; where the walk stops,
+-- no longer one is.
 use Prim.Native.Nat.{_-_, _<_}
 use Rattle.first_runs.specs.ChargeLaws.{walked-start, walked-room}
 use Rattle.first_runs.specs.WeighLaws.{Passing, charge-limit, passing-start, passing-next, passing-stop, passing-end}

@@ -1,4 +1,5 @@
--- What the offers that are left make of the record reached is what all of them make of the first; a refusal is that of the next.
+-- What the offers that are left make of the record reached is what all of them make of the first;
+-- a refusal is that of the next.
 use Prim.Native.Nat.{ℕ, _+_, _-_, _≤_, _<_}
 use native.Mathlib.Numerals.{add-one}
 use mathlib.Core.Path.{_≡_, refl, sym, ap, _∙_}

@@ -1,4 +1,5 @@
--- Each refusal is the first rule that its test finds broken, and leaves the bytes; past the tests the header and the demands are stored.
+-- Each refusal is the first rule that its test finds broken, and leaves the bytes;
+-- past the tests the header and the demands are stored.
 use native.Mathlib.Omega.{arith}
 use mathlib.Core.Path.{_≡_, sym}
 use mathlib.Core.Bool.{true}

@@ -1,4 +1,5 @@
--- Each refusal is the first rule that its test finds broken, and leaves the list; past the tests the demands are stored.
+-- Each refusal is the first rule that its test finds broken, and leaves the list;
+-- past the tests the demands are stored.
 use native.Mathlib.Omega.{arith}
 use mathlib.Core.Path.{_≡_, sym}
 use mathlib.Core.Bool.{true}

@@ -1,6 +1,6 @@
--- `plans::cuttings::series` meets its contract. Three local arrays are lent to `plan_lists`, which plans into them, and then
--- to `store_records`, which stores as many records in the lent list as `buckets_of` says the answer has. Of the three
--- functions the proof knows only the contracts.
+-- `plans::cuttings::series` meets its contract. Three local arrays are lent to `plan_lists`, which plans into them, and
+-- then to `store_records`, which stores as many records in the lent list as `buckets_of` says the answer has. Of the
+-- three functions the proof knows only the contracts.
 -- Assumes nothing.
 use mathlib.Core.Path.{_≡_, refl, _∙_, ap}
 use Prim.Native.Nat.{ℕ, zero, suc, _<_, _≤_, _^_}

@@ -1,5 +1,6 @@
--- `plans::files::write_plan` meets its contract. As many records as `load_count` says are loaded from the lent list into three
--- local arrays, and `write_lists` writes the plan from these. Of the three functions the proof knows only the contracts.
+-- `plans::files::write_plan` meets its contract. As many records as `load_count` says are loaded from the lent list
+-- into three local arrays, and `write_lists` writes the plan from these.
+-- Of the three functions the proof knows only the contracts.
 -- Assumes nothing.
 use mathlib.Core.Path.{_≡_, refl, _∙_, ap}
 use Prim.Native.Nat.{ℕ, zero, suc, _<_, _≤_, _^_}

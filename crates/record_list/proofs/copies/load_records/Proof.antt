@@ -1,6 +1,6 @@
--- `record_list::copies::load_records` meets its contract: a walk of its MIR. The four borrows are opened before the loop
--- and closed after it. In each turn a record is read and its three figures are stored. The loop's variant is i, with i ≤
--- k. After i turns each list holds its figure of the first i records and then what it held.
+-- `record_list::copies::load_records` meets its contract: a walk of its MIR. The four borrows are opened before the
+-- loop and closed after it. In each turn a record is read and its three figures are stored. The loop's variant is i,
+-- with i ≤ k. After i turns each list holds its figure of the first i records and then what it held.
 -- Assumes nothing.
 use mathlib.Core.Path.{_≡_, refl, sym, ap, subst}
 use Prim.Native.Nat.{ℕ, _<_, _≤_, _+_, _-_, _*_, _^_, zero-le}

@@ -1,7 +1,7 @@
--- `record_list::copies::store_records` meets its contract: a walk of its MIR. The borrow of the list is opened before the
--- loop and closed after it. In each turn `listed_record`, of which the proof knows only the contract, makes a record, and
--- it is stored. The loop's variant is i, with i ≤ k. After i turns the list holds the first i records and then what it
--- held.
+-- `record_list::copies::store_records` meets its contract: a walk of its MIR. The borrow of the list is opened before
+-- the loop and closed after it. In each turn `listed_record`, of which the proof knows only the contract, makes a
+-- record, and it is stored. The loop's variant is i, with i ≤ k.
+-- After i turns the list holds the first i records and then what it held.
 -- Assumes nothing.
 use mathlib.Core.Path.{_≡_, refl, sym, ap, subst}
 use Prim.Native.Nat.{ℕ, _<_, _≤_, _+_, _-_, _*_, _^_, zero-le}

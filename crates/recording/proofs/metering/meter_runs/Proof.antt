@@ -1,4 +1,5 @@
--- What is left to meter completes the totals so far; the next run is inside the trace, since the run lengths sum to its length.
+-- What is left to meter completes the totals so far; the next run is inside the trace,
+-- since the run lengths sum to its length.
 use Prim.Native.Nat.{_+_, _-_, _≤_}
 use native.Mathlib.Omega.{arith}
 use mathlib.Core.Path.{_≡_, sym, ap, _∙_}

@@ -1,5 +1,5 @@
--- The outline from the first period on is that of the whole trace: without a cost there is no cutting, and else its runs are
--- recorded.
+-- The outline from the first period on is that of the whole trace: without a cost there is no cutting,
+-- and else its runs are recorded.
 use borrow.Author.Needs.{needs}
 use Rattle.series.specs.RecordLaws.{kept-none, kept-firsts, kept-plan}
 use Rattle.series.specs.CallLaws.{refusal}

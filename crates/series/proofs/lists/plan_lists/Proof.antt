@@ -1,4 +1,5 @@
--- Each refusal is the first rule that its test finds broken, and leaves the lists; past the tests the search gives the answer.
+-- Each refusal is the first rule that its test finds broken, and leaves the lists;
+-- past the tests the search gives the answer.
 use Prim.Native.Nat.{ℕ}
 use native.Mathlib.Nat.{le-trans}
 use mathlib.Core.Path.{_≡_, subst}

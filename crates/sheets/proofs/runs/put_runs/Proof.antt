@@ -1,4 +1,5 @@
--- The lines stored and those of the runs still to come are the whole; the next run is inside the trace, since the run lengths sum to its length.
+-- The lines stored and those of the runs still to come are the whole; the next run is inside the trace,
+-- since the run lengths sum to its length.
 use Prim.Native.Nat.{_+_, _-_, _≤_}
 use native.Mathlib.Omega.{arith}
 use borrow.Author.Needs.{needs}

@@ -1,5 +1,5 @@
--- After k turns the best of the first k candidate rates is found. At the end those above are never preferred; and once the
--- rates left cost more than what is found, even at depth 0, they never are either.
+-- After k turns the best of the first k candidate rates is found. At the end those above are never preferred; and once
+-- the rates left cost more than what is found, even at depth 0, they never are either.
 use Prim.Native.Nat.{ℕ, _+_, _-_, _≤_}
 use native.Mathlib.Omega.{arith}
 use native.Mathlib.Nat.{le-antisymm, le-trans}

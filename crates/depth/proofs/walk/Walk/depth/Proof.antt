@@ -1,4 +1,5 @@
--- The test is the definition's. Past it opening × q is at most p × cap, which is small, so p is above 0 where the opening is.
+-- The test is the definition's. Past it opening × q is at most p × cap, which is small,
+-- so p is above 0 where the opening is.
 use Prim.Native.Nat.{ℕ, zero, suc, _*_, _≤_, max}
 use native.Mathlib.Omega.{arith}
 use native.Mathlib.Nat.{mul-le-mul, le-trans, max-zero}

@@ -1,4 +1,5 @@
--- Each need is the definition's, by what the differences and the greater numbers are; all are at most the sum, which fits.
+-- Each need is the definition's, by what the differences and the greater numbers are; all are at most the sum,
+-- which fits.
 use Prim.Native.Nat.{ℕ, _+_, _-_, max}
 use mathlib.Core.Path.{_≡_, refl}
 use borrow.Author.Needs.{needs}
