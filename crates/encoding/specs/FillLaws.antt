@@ -1,4 +1,5 @@
--- What a call answers that fills the front of a list, and what the list then holds: on a refusal, and once all is stored.
+-- What a call answers that fills the front of a list, and what the list then holds: on a refusal, and once all is
+-- stored.
 -- Assumes nothing.
 use Prim.Native.Nat.{ℕ, _≤_}
 use mathlib.Core.Path.{_≡_, sym, ap, _∙_}

@@ -8,8 +8,8 @@ use lib.Dec.{eqb}
 use lib.ListN.{length}
 use Rattle.encoding.specs.Number.{numberAt}
 
--- The header has from `at` on the offsets of two parts and the file's length. Each is what the counts give, and the bytes are
--- that many.
+-- The header has from `at` on the offsets of two parts and the file's length. Each is what the counts give, and the
+-- bytes are that many.
 abbrev pub placedAs : ℕ → ℕ → ℕ → ℕ → List ℕ → Bool
 placedAs at first second size bs = eqb (numberAt 4 bs at) first && eqb (numberAt 4 bs (at + 4)) second && eqb (numberAt 4 bs (at + 8)) size && eqb (length bs) size
 

@@ -1,4 +1,5 @@
--- Numbers in bytes, lowest byte first, and lists of items of one width (01, "The two files": all numbers are little-endian).
+-- Numbers in bytes, lowest byte first, and lists of items of one width (01, "The two files": all numbers are
+-- little-endian).
 -- Assumes nothing.
 use Prim.Native.Nat.{ℕ, zero, suc, _+_, _*_, _/_, _%_}
 use mathlib.Core.List.{List, [], _∷_, _++_}

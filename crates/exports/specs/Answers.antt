@@ -1,5 +1,5 @@
--- What the exported calls answer and leave, on numbers and lists alone: each definition is that of a call, from an order's or a
--- plan's bytes, with 512 entries for whatever a call needs and the caller does not lend.
+-- What the exported calls answer and leave, on numbers and lists alone: each definition is that of a call, from an
+-- order's or a plan's bytes, with 512 entries for whatever a call needs and the caller does not lend.
 -- Assumes nothing.
 use Prim.Native.Nat.{ℕ, _+_}
 use mathlib.Core.List.{List, [], _∷_}
@@ -42,8 +42,8 @@ factorOf p q = record { p = p; q = q }
 
 -- ---- Orders
 
--- An order's file from the tariff's seven figures and the demands (01, "The two files"). 3: T; 5: another number of figures than
--- seven, or the tariff; 6: bytes fewer than the file.
+-- An order's file from the tariff's seven figures and the demands (01, "The two files"). 3: T; 5: another number of
+-- figures than seven, or the tariff; 6: bytes fewer than the file.
 unfoldable pub orderFrom : ℕ → List ℕ → List ℕ → Answer (List ℕ)
 orderFrom room fs ds = weigh (periodsOk (length ds)) 3 (weigh (eqb (length fs) tariffFigures) 5 (writeOrder room (tariffOf fs) ds))
 
@@ -57,8 +57,8 @@ plannedCost bs = onFigures (λ x. trueCost (x .order .tariff) (x .cutting)) (pla
 abbrev pub planFileIn : ℕ → List ℕ → Answer (List ℕ)
 planFileIn room bs = andThen (planned traceLimit traceLimit bs) (λ x. planFile traceLimit room (planFigures x) (x .cutting))
 
--- A plan file read into three lists of the caller's (01, "The two files"): 1 to 5, then 6 for a list with fewer entries than
--- buckets.
+-- A plan file read into three lists of the caller's (01, "The two files"): 1 to 5, then 6 for a list with fewer entries
+-- than buckets.
 abbrev pub readIn : List ℕ → RecordLists → Answer Recorded
 readIn bs l = readPlan (roomOf (l .runs) (l .rates) (l .depths)) bs
 
@@ -68,7 +68,7 @@ readIn bs l = readPlan (roomOf (l .runs) (l .rates) (l .depths)) bs
 abbrev pub meterFigures : Meter → List ℕ
 meterFigures m = m .held ∷ m .periods ∷ m .sent ∷ m .over ∷ m .lost ∷ []
 
--- A meter opened and offered a list of demands, its figures in a list of `room` entries. 5: the bucket or the factor; 6: fewer
--- entries than five; 9: more demands than a meter takes.
+-- A meter opened and offered a list of demands, its figures in a list of `room` entries. 5: the bucket or the factor;
+-- 6: fewer entries than five; 9: more demands than a meter takes.
 unfoldable pub meterIn : ℕ → Bucket → Factor → List ℕ → Answer Meter
 meterIn room b f ds = weigh (freshOk b f) 5 (weigh (leb 5 room) 6 (meterRun b f ds))

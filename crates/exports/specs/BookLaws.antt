@@ -1,5 +1,5 @@
--- The plan file that is booked here is the one that the whole list of demand 3's calls leaves, with lists of 512 entries: being
--- read back and metered it meets no refusal.
+-- The plan file that is booked here is the one that the whole list of demand 3's calls leaves, with lists of 512
+-- entries: being read back and metered it meets no refusal.
 -- Assumes nothing.
 use Prim.Native.Nat.{ℕ}
 use mathlib.Core.Path.{_≡_, refl, sym, ap, _∙_}

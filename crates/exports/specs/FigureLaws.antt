@@ -1,5 +1,5 @@
--- Every figure that is answered is below 10^18, so that the number answered tells figures from refusals: no two answers share
--- one.
+-- Every figure that is answered is below 10^18, so that the number answered tells figures from refusals: no two answers
+-- share one.
 -- Assumes nothing.
 use Prim.Native.Nat.{ℕ, suc, _+_, _*_, _≤_, _<_, _-_, _^_}
 use native.Mathlib.Omega.{arith}

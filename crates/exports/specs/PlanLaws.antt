@@ -1,4 +1,4 @@
--- Calls that begin with planning an order, and a plan file read into lists of the caller's.
+-- Calls that begin with planning an order, and a plan file read into numbers and lists of the caller's.
 -- Assumes nothing.
 use Prim.Native.Nat.{ℕ, _≤_}
 use native.Mathlib.Omega.{arith}
@@ -65,7 +65,7 @@ module _ (bs : List ℕ) (old new : RecordLists) where
   abbrev reading : Answer Recorded
   reading = readIn bs old
 
-  -- r is answered; of two numbers that held T and k the one holds t and the other n; the caller's lists hold the records.
+  -- r is answered; of two numbers that held T and k the one holds t and the other n; the lists hold the records.
   abbrev pub ReadsCoded : (T k r t n : ℕ) → Type 0
   ReadsCoded T k r t n =
       (r ≡ coded (onFigures (λ x. x .cost) reading))

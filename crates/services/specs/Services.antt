@@ -1,5 +1,5 @@
--- The depth at a rate, a trial and the single bucket from an order file, as figures, and the last two as a line each (00, the
--- first two services).
+-- The depth at a rate, the single bucket and a trial from an order file, as figures, and the last two as a line each
+-- (00, the first two services).
 -- Assumes nothing.
 use Prim.Native.Nat.{ℕ}
 use mathlib.Core.List.{List}
@@ -17,8 +17,8 @@ use Rattle.text.specs.Fitted.{fitted}
 
 -- ---- Figures
 
--- The smallest depth for an order's demands at a rate (01, "Depth at a rate"): 1 to 5 as reading gives it, 5 for the rate, 7 for
--- none.
+-- The smallest depth for an order's demands at a rate (01, "Depth at a rate"): 1 to 5 as reading gives it, 5 for the
+-- rate, 7 for none.
 abbrev pub depthFor : ℕ → List ℕ → Answer ℕ
 depthFor r bs = andThen (ordered traceLimit bs) (λ x. depthOf (x .order .tariff) r (x .demands))
 

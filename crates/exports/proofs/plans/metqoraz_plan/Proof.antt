@@ -1,4 +1,4 @@
--- The room is that of the shortest list; the file is read into lists with room for any plan, whose fronts are then stored.
+-- The room is that of the shortest list; the file is read into lists with room for any plan, whose fronts are stored.
 use Prim.Native.Nat.{ℕ, min}
 use mathlib.Core.Path.{_≡_, sym, ap, _∙_}
 use lib.ListN.{length}
