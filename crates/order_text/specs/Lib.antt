@@ -7,3 +7,4 @@ pub mod FigureLaws
 pub mod TextLaws
 pub mod PlainLaws
 pub mod WordLaws
+pub mod PlaceLaws
