@@ -1,7 +1,7 @@
 // What the programs share: an order on standard input, a text or a refusal on standard output or
 // standard error. For them alone: no contract can say what a program reads or writes, so each
-// program's output is held to a stored one. Where an input or an output fails, the caller says what is
-// named on standard error: the program and what it was about.
+// program's output is held to a stored one. Where a read or a write fails, a line on standard error has
+// what the caller hands over as `what`, the program and its input or output, and the system's reason.
 use encoding::FillAnswer;
 use libc::STDERR_FILENO;
 use libc::STDIN_FILENO;
@@ -16,8 +16,8 @@ ghost use Rattle.io.specs.Counts.{Counts};
 pub const ORDER_ROOM: usize = LONGEST_ORDER + 1;
 
 // Reads all of standard input, in whatever pieces it comes, or as much of it as there is room for.
-// Where a read fails, that goes to standard error as a fault of what, and nothing counts as read: a
-// part of an order could pass for another order.
+// Where a read fails, it says so and nothing counts as read: a part of an order could pass for another
+// order.
 pub fn read_all(room: &mut [u8], what: &[u8]) -> usize
     ensures { λ r. ⌜ Counts r (now (room .exit)) ⌝ }
 {
@@ -38,7 +38,7 @@ pub fn read_all(room: &mut [u8], what: &[u8]) -> usize
 }
 
 // Whether the program was started with that many words, its own name among them. Where it was not,
-// its use goes to standard error, or to standard output where the one argument asks for it.
+// its use goes to standard error, or to standard output where --help is the only argument.
 pub fn has_words(count: usize, usage: &[u8], what: &[u8]) -> bool {
     if asks_for_help() {
         put(STDOUT_FILENO, usage, what);
@@ -51,7 +51,6 @@ pub fn has_words(count: usize, usage: &[u8], what: &[u8]) -> bool {
     false
 }
 
-// Whether the program's only argument is --help.
 fn asks_for_help() -> bool {
     let mut word = [0u8; 6];
     let length = os::arg(1, &mut word);
@@ -87,8 +86,7 @@ pub fn refuse(fd: i32, why: Refusal, what: &[u8]) {
     put_front(fd, &line, length, what);
 }
 
-// Writes all of some bytes. Where that fails, the system's reason goes to standard error as a fault
-// of what.
+// Writes all of some bytes, and says so where that fails.
 pub fn put(fd: i32, bytes: &[u8], what: &[u8]) {
     if !io::write_all(fd, bytes) {
         os::fail(what);

@@ -1,5 +1,5 @@
--- The figures of a text are an order's: each is within its limit, p and q make a factor, and there are as many as an order
--- has. So the file is refused only for want of bytes.
+-- The figures of a text are an order's: each is within its limit, p and q make a factor, and there are as many as an
+-- order has. So the file is refused only for want of bytes.
 -- Assumes nothing.
 use Prim.Native.Nat.{ℕ, zero, suc, _+_, _≤_, _<_}
 use native.Mathlib.Omega.{arith}

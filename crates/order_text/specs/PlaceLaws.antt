@@ -1,4 +1,4 @@
--- The place of a fault is inside the text, or at its end: each step goes on by one byte, and a fault stays where it is found.
+-- The place of a fault is inside the text, or at its end: each step goes on by one byte, and a fault is where it stops.
 -- Assumes nothing.
 use Prim.Native.Nat.{ℕ, suc, _+_, _≤_, _<_}
 use native.Mathlib.Omega.{arith}

@@ -1,4 +1,5 @@
--- The plain text of figures gives the figures back: each figure's digits come to it, and the newline behind them ends it.
+-- The plain text of figures gives the figures back: each figure's digits come to it, and the newline behind them ends
+-- it; also behind a mark.
 -- Assumes nothing.
 use Prim.Native.Nat.{ℕ, zero, suc, _+_, _-_, _*_, _^_, _≤_, _<_}
 use native.Mathlib.Omega.{arith}

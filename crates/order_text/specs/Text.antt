@@ -1,4 +1,4 @@
--- An order typed as text: the scan of its bytes, the figures that it gives, and the order file of these.
+-- An order typed as text: the scan of its bytes, its figures, the word around a place, and the order file.
 -- Assumes nothing.
 use Prim.Native.Nat.{ℕ, zero, suc, _+_, min}
 use mathlib.Core.Bool.{Bool, true, false, cond, not, _&&_, _||_}
@@ -37,7 +37,7 @@ thenRead (faulty x) next = faulty x
 
 -- ---- The bytes of a text
 
--- How many bytes the byte order mark of UTF-8 has, where a text begins with one.
+-- The length of the byte order mark of UTF-8 where a text begins with it; else 0.
 abbrev pub markLength : List ℕ → ℕ
 markLength text = cond (eqb (getD text 0 0) 239 && eqb (getD text 1 0) 187 && eqb (getD text 2 0) 191) 3 0
 
@@ -65,7 +65,7 @@ endsLine returned b = eqb b carriageReturn || (eqb b newline && not returned)
 pub record Scan : Type 0 where
   -- the line that it is on, from 1
   pub line : ℕ
-  -- the bytes of the text before it, those of the mark among them
+  -- how many bytes of the text are before it, those of the mark among them
   pub place : ℕ
   -- whether the last of them is a carriage return
   pub returned : Bool
@@ -133,8 +133,8 @@ closed s =
     let stands = factorStands (length (s .figures)) (getD (s .figures) 3 0) (s .value) in
     cond (s .begun) (cond stands (read (withFigure s)) (faulty (faultAt Factor s))) (read s)
 
--- One byte more: a comment passes over it; else a digit goes to a figure, what may stand behind a figure ends one that is
--- begun, and any other byte is a fault.
+-- One byte more: a comment passes over it; else a digit goes to a figure, what may stand behind a figure ends one that
+-- is begun, and any other byte is a fault.
 abbrev pub afterByte : Scan → ℕ → Reading Scan
 afterByte s b =
     cond (s .comment) (read (passed s b))
@@ -146,10 +146,11 @@ unfoldable pub scanned : Scan → List ℕ → Reading Scan
 scanned s [] = read s
 scanned s (b ∷ bs) = thenRead (afterByte s b) (λ t. scanned t bs)
 
+-- A text from behind its mark to its end.
 abbrev pub wholeScan : List ℕ → Reading Scan
 wholeScan text = scanned (started (markLength text)) (unmarked text)
 
--- The seven figures of the tariff and at least one demand. A text that ends with a line's end ends on the line after it.
+-- The seven figures of the tariff and at least one demand. A text that ends with a line end ends on the line after it.
 abbrev pub enough : Scan → Reading (List ℕ)
 enough s = cond (leb (tariffFigures + 1) (length (s .figures))) (read (s .figures)) (faulty (faultAt Few s))
 

@@ -1,4 +1,4 @@
--- The mark in front of a text, and the word around a place found byte by byte: back from the place to where the word begins, and on from there to its end.
+-- The mark in front of a text, and the word around a place found byte by byte: back to its first and on to its last.
 -- Assumes nothing.
 use Prim.Native.Nat.{ℕ, zero, suc, _+_, _-_, _≤_, _<_, min}
 use native.Mathlib.Omega.{arith}

@@ -2,7 +2,7 @@
 ghost use mathlib.Core.Path.{_≡_};
 ghost use Rattle.order_text.specs.Text.{endsFigure, endsLine, markLength};
 
-// How many bytes the byte order mark of UTF-8 has, where a text begins with one.
+// The length of the byte order mark of UTF-8 where a text begins with it; else 0.
 pub(crate) fn mark_length(text: &[u8]) -> usize
     ensures { λ r. ⌜ r ≡ markLength (now (text .entry)) ⌝ }
 {

@@ -25,7 +25,7 @@ ghost use Rattle.order_text.specs.Cursors.{Ahead, Fits, Passes, StepFits
 pub(crate) struct Cursor {
     // the line that the scan is on, from 1
     pub line: usize,
-    // the bytes of the text before it, and whether the last of them is a carriage return
+    // how many bytes of the text are before it, and whether the last of them is a carriage return
     pub place: usize,
     pub returned: bool,
     // whether a comment is open
