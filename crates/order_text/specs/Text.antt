@@ -164,7 +164,7 @@ plainText ns = bytesOfAll (λ n. ended (numeral n) newline) ns
 
 -- ---- The word around a place
 
--- Where it begins: behind the mark, or behind the last byte before the place that ends a figure.
+-- Where it begins: behind the last byte before the place that ends a figure, behind the mark, or where the text does.
 unfoldable pub wordStart : List ℕ → ℕ → ℕ
 wordStart text zero = 0
 wordStart text (suc n) = cond (eqb (suc n) (markLength text) || endsFigure (getD text n 0)) (suc n) (wordStart text n)
