@@ -17,11 +17,12 @@ fn main() {
     if !has_words(
         1,
         b"use: book < ORDER > PLAN (an order file on standard input)\n",
+        b"book: write",
     ) {
         return;
     }
     let mut order = [0u8; ORDER_ROOM];
-    let length = read_all(&mut order);
+    let length = read_all(&mut order, b"book: standard input");
     book_order(&order[..length]);
 }
 
@@ -29,7 +30,12 @@ fn book_order(order: &[u8]) {
     let mut bytes = [0u8; LONGEST_PLAN];
     let answer = book_file(order, &mut bytes);
     match answer {
-        BookingAnswer::Booked(booked) => put_front(STDOUT_FILENO, &bytes, booked.length),
-        BookingAnswer::Refused(why) => refuse(STDERR_FILENO, why),
+        BookingAnswer::Booked(booked) => put_front(
+            STDOUT_FILENO,
+            &bytes,
+            booked.length,
+            b"book: write",
+        ),
+        BookingAnswer::Refused(why) => refuse(STDERR_FILENO, why, b"book: write"),
     }
 }

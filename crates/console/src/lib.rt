@@ -1,6 +1,7 @@
 // What the programs share: an order on standard input, a text or a refusal on standard output or
 // standard error. For them alone: no contract can say what a program reads or writes, so each
-// program's output is held to a stored one.
+// program's output is held to a stored one. Where a read or a write fails, a line on standard error has
+// what the caller hands over as `what`, the program and its input or output, and the system's reason.
 use encoding::FillAnswer;
 use libc::STDERR_FILENO;
 use libc::STDIN_FILENO;
@@ -15,16 +16,16 @@ ghost use Rattle.io.specs.Counts.{Counts};
 pub const ORDER_ROOM: usize = LONGEST_ORDER + 1;
 
 // Reads all of standard input, in whatever pieces it comes, or as much of it as there is room for.
-// Where a read fails, that goes to standard error and nothing counts as read: a part of an order
-// could pass for another order.
-pub fn read_all(room: &mut [u8]) -> usize
+// Where a read fails, it says so and nothing counts as read: a part of an order could pass for another
+// order.
+pub fn read_all(room: &mut [u8], what: &[u8]) -> usize
     ensures { λ r. ⌜ Counts r (now (room .exit)) ⌝ }
 {
     let mut done = 0;
     while done < room.len() {
         let got = libc::read(STDIN_FILENO, &mut room[done..]);
         if got < 0 {
-            say_unread();
+            os::fail(what);
             return 0;
         }
         let more = io::count(got, room);
@@ -36,47 +37,58 @@ pub fn read_all(room: &mut [u8]) -> usize
     done
 }
 
-fn say_unread() {
-    os::fail(b"standard input");
-}
-
-// Whether the program was started with that many words, its own name among them; where it was not,
-// its use goes to standard error.
-pub fn has_words(count: usize, usage: &[u8]) -> bool {
+// Whether the program was started with that many words, its own name among them. Where it was not,
+// its use goes to standard error, or to standard output where --help is the only argument.
+pub fn has_words(count: usize, usage: &[u8], what: &[u8]) -> bool {
+    if asks_for_help() {
+        put(STDOUT_FILENO, usage, what);
+        return false;
+    }
     if os::arg_count() == count {
         return true;
     }
-    put(STDERR_FILENO, usage);
+    put(STDERR_FILENO, usage, what);
     false
 }
 
+fn asks_for_help() -> bool {
+    let mut word = [0u8; 6];
+    let length = os::arg(1, &mut word);
+    (os::arg_count() == 2) & (length == 6) & is_help(word)
+}
+
+fn is_help(word: [u8; 6]) -> bool {
+    let dashes = (word[0] == b'-') & (word[1] == b'-');
+    dashes & (word[2] == b'h') & (word[3] == b'e') & (word[4] == b'l') & (word[5] == b'p')
+}
+
 // Writes the text that a call has filled to standard output, or the refusal line.
-pub fn print(answer: FillAnswer, text: &[u8]) {
+pub fn print(answer: FillAnswer, text: &[u8], what: &[u8]) {
     match answer {
-        FillAnswer::Filled(length) => put_front(STDOUT_FILENO, text, length),
-        FillAnswer::Refused(why) => refuse(STDOUT_FILENO, why),
+        FillAnswer::Filled(length) => put_front(STDOUT_FILENO, text, length, what),
+        FillAnswer::Refused(why) => refuse(STDOUT_FILENO, why, what),
     }
 }
 
 // Writes the front of some bytes, as long as a call has answered.
-pub fn put_front(fd: i32, bytes: &[u8], length: usize) {
+pub fn put_front(fd: i32, bytes: &[u8], length: usize, what: &[u8]) {
     if length <= bytes.len() {
-        put(fd, &bytes[..length]);
+        put(fd, &bytes[..length], what);
     }
 }
 
 // Writes the refusal line.
-pub fn refuse(fd: i32, why: Refusal) {
+pub fn refuse(fd: i32, why: Refusal, what: &[u8]) {
     let mut line = [0u8; LONGEST_REFUSAL];
     let FillAnswer::Filled(length) = refusal_line(why, &mut line) else {
         return;
     };
-    put_front(fd, &line, length);
+    put_front(fd, &line, length, what);
 }
 
 // Writes all of some bytes, and says so where that fails.
-pub fn put(fd: i32, bytes: &[u8]) {
+pub fn put(fd: i32, bytes: &[u8], what: &[u8]) {
     if !io::write_all(fd, bytes) {
-        os::fail(b"write");
+        os::fail(what);
     }
 }

@@ -76,12 +76,13 @@ pub use text::LONGEST_REFUSAL;
 pub use text::megabits;
 pub use text::refusal_line;
 
-// Typed text: an order's figures, and one number.
+// Typed text: an order's figures, the word around a fault, and one number.
 pub use order_text::Cause;
 pub use order_text::Fault;
 pub use order_text::TextAnswer;
 pub use order_text::order_of_text;
 pub use order_text::refusal_of;
+pub use order_text::word_at;
 pub use typed_figures::NumberAnswer;
 pub use typed_figures::limit_of;
 pub use typed_figures::number_of;

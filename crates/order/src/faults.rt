@@ -1,24 +1,27 @@
-// What is wrong with a text, in one line on standard error: where, about which figure, why, and the
-// refusal's number.
+// What is wrong with a text, in one line on standard error: where, about which figure, its word where it
+// has one, why, and the refusal's number.
 use libc::STDERR_FILENO;
 use order_text::Cause;
 use order_text::Fault;
 use order_text::refusal_of;
+use order_text::word_at;
 use terms::Refusal;
+use terms::numbers::shorter;
 use terms::refusal_number;
 use typed_figures::limit_of;
 
-pub fn say(fault: Fault) {
+pub fn say(fault: Fault, text: &[u8]) {
     words(b"order: line ");
     number(fault.line as u64);
     words(b": ");
     name(fault.figure);
     words(b": ");
+    let word = word_at(text, fault.place);
     let cause = fault.cause;
     match cause {
-        Cause::Byte => words(b"not a decimal number"),
-        Cause::Above => above(fault.figure),
-        Cause::Factor => words(b"0, or less than p"),
+        Cause::Byte => of_word(word, b" is not a decimal number"),
+        Cause::Above => above(word, fault.figure),
+        Cause::Factor => of_word(word, b" is 0, or less than p"),
         Cause::Many => words(b"more than 512 demands"),
         Cause::Few => words(b"the text ends where it is due"),
     }
@@ -55,9 +58,40 @@ fn name(figure: usize) {
     }
 }
 
-fn above(figure: usize) {
-    words(b"above ");
+fn above(word: &[u8], figure: usize) {
+    of_word(word, b" is above ");
     number(limit_of(figure) as u64);
+}
+
+// A word in quotes, then what is said of it.
+fn of_word(word: &[u8], fault: &[u8]) {
+    words(b"\"");
+    shown(word);
+    words(b"\"");
+    if SHOWN < word.len() {
+        words(b"...");
+    }
+    words(fault);
+}
+
+// So many bytes of a word are shown.
+const SHOWN: usize = 40;
+
+fn shown(word: &[u8]) {
+    for i in 0..shorter(word.len(), SHOWN) {
+        byte(word[i]);
+    }
+}
+
+// A byte that prints as itself, any other by its number, as \x00 to \xff: none reaches a terminal as
+// a command.
+fn byte(b: u8) {
+    if (33 <= b) & (b <= 126) {
+        words(&[b]);
+        return;
+    }
+    words(b"\\x");
+    io::print_hex(STDERR_FILENO, b as u64, 2);
 }
 
 fn words(text: &[u8]) {

@@ -15,11 +15,12 @@ fn main() {
     if !has_words(
         1,
         b"use: order < TEXT > ORDER (figures as decimal text on standard input)\n",
+        b"order: write",
     ) {
         return;
     }
     let mut text = io::large_buffer();
-    let length = read_all(&mut text);
+    let length = read_all(&mut text, b"order: standard input");
     // a buffer that is full may leave text behind
     if length == text.len() {
         faults::long_text();
@@ -31,8 +32,8 @@ fn main() {
 fn write_order(text: &[u8]) {
     let mut file = [0; LONGEST_ORDER];
     match order_of_text(text, &mut file) {
-        TextAnswer::Written(length) => put_front(STDOUT_FILENO, &file, length),
-        TextAnswer::Faulty(fault) => faults::say(fault),
+        TextAnswer::Written(length) => put_front(STDOUT_FILENO, &file, length, b"order: write"),
+        TextAnswer::Faulty(fault) => faults::say(fault, text),
         // never: the bytes are as many as the longest file has
         TextAnswer::Refused(refusal) => faults::refused(refusal),
     }

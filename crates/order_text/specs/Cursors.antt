@@ -12,7 +12,16 @@ use Rattle.order_text.specs.declared.scan.Step.the-variants.{On, Faulty}
 use Rattle.order_text.specs.Text.{Reading, read, faulty, Scan, passed}
 
 abbrev pub scanOf : Cursor → List ℕ → Scan
-scanOf c xs = record { line = c .line; comment = c .comment; begun = c .begun; value = c .value; figures = take (c .count) xs }
+scanOf c xs =
+    record {
+      line = c .line;
+      place = c .place;
+      returned = c .returned;
+      comment = c .comment;
+      begun = c .begun;
+      value = c .value;
+      figures = take (c .count) xs;
+    }
 
 abbrev pub stepSays : Step → List ℕ → Reading Scan
 stepSays (On c) xs = read (scanOf c xs)
@@ -27,9 +36,10 @@ abbrev pub StepFits : Step → Type 0
 StepFits (On c) = Fits c
 StepFits (Faulty x) = Unit {0}
 
--- a line that has another after it among the numbers of 64 bits
-abbrev pub lineLimit : ℕ
-lineLimit = 18446744073709551615
+-- The line and the place have others after them among the numbers of 64 bits.
+pub record Ahead (c : Cursor) : Type 0 where
+  pub lines : c .line < 18446744073709551615
+  pub places : c .place < 18446744073709551615
 
 -- A step from c that stores nothing: whatever the figures read, it is the definition's.
 pub record Steps (step : Scan → Reading Scan) (c : Cursor) (r : Step) : Type 0 where

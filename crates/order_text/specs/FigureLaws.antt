@@ -1,5 +1,5 @@
--- The figures of a text are an order's: each is within its limit, p and q make a factor, and there are as many as an order
--- has. So the file is refused only for want of bytes.
+-- The figures of a text are an order's: each is within its limit, p and q make a factor, and there are as many as an
+-- order has. So the file is refused only for want of bytes.
 -- Assumes nothing.
 use Prim.Native.Nat.{ℕ, zero, suc, _+_, _≤_, _<_}
 use native.Mathlib.Omega.{arith}
@@ -23,7 +23,7 @@ use Rattle.typed_figures.specs.Figures.{tariffFigures, limitOf, figuresLimit, f
 use Rattle.typed_figures.specs.DecimalLaws.{push-limit}
 use Rattle.typed_figures.specs.LimitLaws.{limit-demand}
 use Rattle.order_text.specs.declared.faults.Cause.the-variants.{Few}
-use Rattle.order_text.specs.Text.{read, faulty, thenRead, Scan, started, faultAt, closed, afterByte, scanned, enough, figuresOf, writeFigures}
+use Rattle.order_text.specs.Text.{read, faulty, thenRead, Scan, markLength, unmarked, started, faultAt, closed, afterByte, scanned, wholeScan, enough, figuresOf, writeFigures}
 use Rattle.order_text.specs.ScanLaws.{read-faulty, same-read, then-read, Closes, idle, ended, Goes, inside, past, closes, goes}
 
 abbrev factorWith : ℕ → ℕ → Bool
@@ -42,8 +42,8 @@ record Kept (s : Scan) : Type 0 where
   room : s .begun ≡ true → length (s .figures) < figuresLimit
   factor : 5 ≤ length (s .figures) → FactorIn (s .figures)
 
-kept-start : Kept started
-kept-start = record { each = λ i. omega arith; value = omega arith; few = omega arith; room = λ h. absurd (true-false h refl); factor = λ l. absurd (omega arith) }
+kept-start : (place : ℕ) → Kept (started place)
+kept-start place = record { each = λ i. omega arith; value = omega arith; few = omega arith; room = λ h. absurd (true-false h refl); factor = λ l. absurd (omega arith) }
 
 -- One more figure.
 each-append : (ns : List ℕ) (v : ℕ) (limit : ℕ → ℕ) → ((i : ℕ) → getD ns i 0 ≤ limit i) → v ≤ limit (length ns) → (i : ℕ) → getD (ns ++ v ∷ []) i 0 ≤ limit i
@@ -113,10 +113,11 @@ enough-read s ns = go (leb (tariffFigures + 1) (length (s .figures))) refl
 pub text-figures : (text ns : List ℕ) → figuresOf text ≡ read ns → Figures ns
 unfolding figuresOf
 text-figures text ns e =
-    let a = then-read (thenRead (scanned started text) closed) enough e in
-    let b = then-read (scanned started text) closed (a .1) in
+    let a = then-read (thenRead (wholeScan text) closed) enough e in
+    let b = then-read (wholeScan text) closed (a .1) in
     let c = enough-read (a .0) ns (a .2) in
-    let k = kept-closes (closes (b .0) (a .0) (b .2)) (kept-scanned started (b .0) text (b .1) kept-start) in
+    let m = markLength text in
+    let k = kept-closes (closes (b .0) (a .0) (b .2)) (kept-scanned (started m) (b .0) (unmarked text) (b .1) (kept-start m)) in
     subst Figures (c .1) (record { some = c .0; few = k .few; each = k .each; factor = k .factor (omega (arith, c .0)) })
 
 -- ---- … and the order that they give

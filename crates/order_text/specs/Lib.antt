@@ -6,3 +6,5 @@ pub mod CursorLaws
 pub mod FigureLaws
 pub mod TextLaws
 pub mod PlainLaws
+pub mod WordLaws
+pub mod PlaceLaws

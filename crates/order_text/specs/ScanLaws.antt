@@ -1,4 +1,4 @@
--- The scan case by case: what each byte does, and how far a step goes on in the lines.
+-- The scan case by case: what each byte does, and how far a step goes on in the lines and the bytes.
 -- Assumes nothing.
 use Prim.Native.Nat.{ℕ, _+_, _≤_, _<_}
 use native.Mathlib.Omega.{arith}
@@ -7,15 +7,14 @@ use mathlib.Core.Bool.{Bool, true, false, cond}
 use mathlib.Core.List.{List}
 use mathlib.Core.Option.{Option, none, some}
 use borrow.Author.Tests.{leb-false, le-leb, lt-leb}
-use lib.Dec.{leb, eqb}
+use lib.Dec.{leb}
 use lib.ListN.{length, drop, getD, drop-of-length-le}
 use Rattle.encoding.specs.StoreLaws.{drop-next}
 use Rattle.typed_figures.specs.Decimal.{isDigit, pushed}
 use Rattle.typed_figures.specs.Figures.{tariffFigures, limitOf, figuresLimit, factorStands}
 use Rattle.order_text.specs.declared.faults.Cause.the-variants.{Byte, Factor, Many, Few}
 use Rattle.order_text.specs.declared.faults.Fault.{Fault}
-use Rattle.text.specs.Lines.{newline}
-use Rattle.order_text.specs.Text.{Reading, read, faulty, onRead, thenRead, Scan, started, faultAt, endsFigure, passed, withValue, unlessAbove, withDigit, withFigure, closed, afterByte, scanned, enough, figuresOf}
+use Rattle.order_text.specs.Text.{Reading, read, faulty, onRead, thenRead, Scan, faultAt, endsFigure, endsLine, passed, withValue, unlessAbove, withDigit, withFigure, closed, afterByte, scanned, wholeScan, enough, figuresOf}
 
 -- ---- What is read, or a fault
 
@@ -110,11 +109,15 @@ goes s t b = go (s .comment) (isDigit b) (endsFigure b)
     go false false true e = let k = on-read (λ u. passed u b) (closed s) e in subst (Goes s b) (k .2) (past (closes s (k .0) (k .1)))
     go false false false e = absurd (read-faulty (sym e))
 
--- ---- Lines: a step goes on by one at the most
+-- ---- A step goes on by one byte, and by one line at the most
 
 pub closes-line : {s t : Scan} → Closes s t → t .line ≡ s .line
 closes-line idle = refl
 closes-line (ended h k) = refl
+
+pub closes-place : {s t : Scan} → Closes s t → t .place ≡ s .place
+closes-place idle = refl
+closes-place (ended h k) = refl
 
 passed-line : (t : Bool) (n : ℕ) → cond t (n + 1) n ≤ n + 1
 passed-line true n = omega arith
@@ -122,7 +125,11 @@ passed-line false n = omega arith
 
 pub goes-line : {s t : Scan} {b : ℕ} → Goes s b t → t .line ≤ s .line + 1
 goes-line (inside n l e) = omega arith
-goes-line {b = b} (past {t} c) = omega (arith, closes-line c, passed-line (eqb b newline) (t .line))
+goes-line {b = b} (past {t} c) = omega (arith, closes-line c, passed-line (endsLine (t .returned) b) (t .line))
+
+pub goes-place : {s t : Scan} {b : ℕ} → Goes s b t → t .place ≡ s .place + 1
+goes-place (inside n l e) = refl
+goes-place (past c) = ap (λ (n : ℕ). n + 1) (closes-place c)
 
 -- ---- A text, from its i-th byte on
 
@@ -138,11 +145,11 @@ module _ (s : Scan) (text : List ℕ) (i : ℕ) where
 -- ---- The end of the text
 
 module _ (text : List ℕ) where
-  pub text-scanned : (a : Reading Scan) → scanned started text ≡ a → figuresOf text ≡ thenRead (thenRead a closed) enough
+  pub text-scanned : (a : Reading Scan) → wholeScan text ≡ a → figuresOf text ≡ thenRead (thenRead a closed) enough
   unfolding figuresOf
   text-scanned a e = ap (λ (x : Reading Scan). thenRead (thenRead x closed) enough) e
 
-  pub text-closed : (s : Scan) (a : Reading Scan) → scanned started text ≡ read s → closed s ≡ a → figuresOf text ≡ thenRead a enough
+  pub text-closed : (s : Scan) (a : Reading Scan) → wholeScan text ≡ read s → closed s ≡ a → figuresOf text ≡ thenRead a enough
   text-closed s a e k = text-scanned (read s) e ∙ ap (λ (x : Reading Scan). thenRead x enough) k
 
 pub enough-few : (s : Scan) → length (s .figures) ≤ tariffFigures → enough s ≡ faulty (faultAt Few s)

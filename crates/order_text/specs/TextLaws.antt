@@ -1,5 +1,5 @@
--- What a text gives in lent bytes: nothing on a fault, and else the order file of its figures, which reads back as them and
--- is refused only for want of bytes.
+-- What a text gives in lent bytes: nothing on a fault, and else the order file of its figures, which reads back as them
+-- and is refused only for want of bytes.
 -- Assumes nothing.
 use Prim.Native.Nat.{ℕ, _≤_}
 use native.Mathlib.Omega.{arith}

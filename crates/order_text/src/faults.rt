@@ -17,10 +17,12 @@ pub enum Cause {
     Few,
 }
 
-// A fault: its line, from 1; the figure that is being read or is due there, from 0 for the rate
-// price to 6 for the depth cap, and from 7 on for the demands; and its cause.
+// A fault: its line, from 1; its place, how many bytes of the text stand before the one that shows it,
+// or how many the text has where its end does; the figure that is being read or is due there, from 0
+// for the rate price to 6 for the depth cap, and from 7 on for the demands; and its cause.
 pub struct Fault {
     pub line: usize,
+    pub place: usize,
     pub figure: usize,
     pub cause: Cause,
 }

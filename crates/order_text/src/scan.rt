@@ -1,5 +1,8 @@
 // The scan of a text, byte by byte. A cursor says where it has come to; the figures read so far lie
 // at the front of a list that is lent.
+use crate::bytes::ends_figure;
+use crate::bytes::ends_line;
+use crate::bytes::mark_length;
 use crate::faults::Cause;
 use crate::faults::Fault;
 use typed_figures::digits::Push;
@@ -10,19 +13,21 @@ use typed_figures::figures::P_INDEX;
 use typed_figures::figures::TARIFF_FIGURES;
 use typed_figures::figures::factor_stands;
 use typed_figures::limit_of;
-ghost use Prim.Native.Nat.{_<_};
 ghost use mathlib.Core.Path.{_≡_};
 ghost use mathlib.Core.Bool.{true};
 ghost use lib.ListN.{length};
 ghost use Rattle.typed_figures.specs.Decimal.{isDigit};
 ghost use Rattle.typed_figures.specs.Figures.{figuresLimit};
-ghost use Rattle.order_text.specs.Text.{afterByte, closed, endsFigure, faultAt, faulty, figuresOf, onRead, scanned, started, withDigit};
-ghost use Rattle.order_text.specs.Cursors.{Fits, Passes, StepFits, Steps, lineLimit, scanOf, stepSays};
+ghost use Rattle.order_text.specs.Text.{afterByte, closed, faultAt, faulty, figuresOf, onRead, wholeScan, withDigit};
+ghost use Rattle.order_text.specs.Cursors.{Ahead, Fits, Passes, StepFits, Steps, scanOf, stepSays};
 
 // Where the scan has come to.
 pub(crate) struct Cursor {
     // the line that the scan is on, from 1
     pub line: usize,
+    // how many bytes of the text are before it, and whether the last of them is a carriage return
+    pub place: usize,
+    pub returned: bool,
     // whether a comment is open
     pub comment: bool,
     // whether a figure is begun, and what its digits come to; 0 where none is
@@ -59,20 +64,22 @@ pub(crate) fn read_figures(text: &[u8], figures: &mut [u32]) -> Step
     Step::On(at)
 }
 
-// Scans the whole text, or up to its first fault.
+// Scans the whole text behind its mark, or up to its first fault.
 fn scan(text: &[u8], figures: &mut [u32]) -> Step
     requires { ⌜ length (now figures) ≡ figuresLimit ⌝ }
-    ensures { λ r. ⌜ stepSays r (now (figures .exit)) ≡ scanned started (now (text .entry)) ⌝ }
+    ensures { λ r. ⌜ stepSays r (now (figures .exit)) ≡ wholeScan (now (text .entry)) ⌝ }
     ensures { λ r. ⌜ StepFits r ⌝ }
 {
+    let mut i = mark_length(text);
     let mut at = Cursor {
         line: 1,
+        place: i,
+        returned: false,
         comment: false,
         begun: false,
         value: 0,
         count: 0,
     };
-    let mut i = 0;
     while i < text.len() {
         at = match after_byte(at, text[i], figures) {
             Step::On(next) => next,
@@ -88,7 +95,7 @@ fn scan(text: &[u8], figures: &mut [u32]) -> Step
 fn after_byte(at: Cursor, byte: u8, figures: &mut [u32]) -> Step
     requires { ⌜ length (now figures) ≡ figuresLimit ⌝ }
     requires { ⌜ Fits at ⌝ }
-    requires { ⌜ at .line < lineLimit ⌝ }
+    requires { ⌜ Ahead at ⌝ }
     ensures { λ r. ⌜ stepSays r (now (figures .exit)) ≡ afterByte (scanOf at (now (figures .entry))) byte ⌝ }
     ensures { λ r. ⌜ StepFits r ⌝ }
 {
@@ -107,21 +114,15 @@ fn after_byte(at: Cursor, byte: u8, figures: &mut [u32]) -> Step
     }
 }
 
-// Whether a byte may stand right behind a figure: a space, a tab, a carriage return, a newline, or
-// the # of a comment.
-fn ends_figure(byte: u8) -> bool
-    ensures { λ r. ⌜ r ≡ endsFigure byte ⌝ }
-{
-    (byte == b' ') | (byte == b'\t') | (byte == b'\r') | (byte == b'\n') | (byte == b'#')
-}
-
-// Past a byte that belongs to no figure: a newline ends the line and a comment, a # opens one.
+// Past a byte that belongs to no figure: a line ends with its comment, a # opens one.
 fn pass(at: Cursor, byte: u8) -> Cursor
-    requires { ⌜ at .line < lineLimit ⌝ }
+    requires { ⌜ Ahead at ⌝ }
     ensures { λ r. ⌜ Passes byte at r ⌝ }
 {
     let mut next = at;
-    if byte == b'\n' {
+    next.place = at.place + 1;
+    next.returned = byte == b'\r';
+    if ends_line(at.returned, byte) {
         next.line = at.line + 1;
         next.comment = false;
         return next;
@@ -133,6 +134,7 @@ fn pass(at: Cursor, byte: u8) -> Cursor
 // A digit goes to the figure that is begun, or begins one.
 fn with_digit(at: Cursor, byte: u8) -> Step
     requires { ⌜ Fits at ⌝ }
+    requires { ⌜ Ahead at ⌝ }
     requires { ⌜ isDigit byte ≡ true ⌝ }
     ensures { λ r. ⌜ Steps (λ s. withDigit s byte) at r ⌝ }
 {
@@ -144,6 +146,8 @@ fn with_digit(at: Cursor, byte: u8) -> Step
     };
     Step::On(Cursor {
         line: at.line,
+        place: at.place + 1,
+        returned: false,
         comment: at.comment,
         begun: true,
         value,
@@ -168,6 +172,8 @@ fn close(at: Cursor, figures: &mut [u32]) -> Step
     figures[index] = at.value;
     Step::On(Cursor {
         line: at.line,
+        place: at.place,
+        returned: at.returned,
         comment: at.comment,
         begun: false,
         value: 0,
@@ -182,6 +188,7 @@ fn fault_at(at: Cursor, cause: Cause) -> Step
 {
     Step::Faulty(Fault {
         line: at.line,
+        place: at.place,
         figure: at.count,
         cause,
     })

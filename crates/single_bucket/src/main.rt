@@ -10,12 +10,13 @@ fn main() {
     if !has_words(
         1,
         b"use: single_bucket < ORDER (an order file on standard input)\n",
+        b"single_bucket: write",
     ) {
         return;
     }
     let mut order = [0u8; ORDER_ROOM];
-    let length = read_all(&mut order);
+    let length = read_all(&mut order, b"single_bucket: standard input");
     let mut text = [0u8; LONGEST_SINGLE];
     let answer = single_line(&order[..length], &mut text);
-    print(answer, &text);
+    print(answer, &text, b"single_bucket: write");
 }

@@ -59,7 +59,7 @@ fn is_fault_there(answer: TextAnswer) -> bool {
 fn is_there(fault: Fault) -> bool {
     let cause = fault.cause;
     match cause {
-        Cause::Byte => (fault.line == 2) & (fault.figure == 7),
+        Cause::Byte => (fault.line == 2) & (fault.figure == 7) & (fault.place == 15),
         _ => false,
     }
 }

@@ -25,6 +25,10 @@ fn contents() {
         b"# # -1 'x' \t \r 1e9\n2 1 4 1 2 4095 1000000 4 8 2",
     );
     edge(
+        b"no carriage return in it",
+        b"# # -1 'x' \t 1e9\n2 1 4 1 2 4095 1000000 4 8 2",
+    );
+    edge(
         b"carriage return in it",
         b"2 1 4 1 2 4095 1000000 4 # 8\r2\n6",
     );

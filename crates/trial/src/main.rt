@@ -18,6 +18,7 @@ fn main() {
     if !has_words(
         3,
         b"use: trial RATE DEPTH < ORDER (kilobits; an order file on standard input)\n",
+        b"trial: write",
     ) {
         return;
     }
@@ -25,6 +26,7 @@ fn main() {
         put(
             STDERR_FILENO,
             b"trial: RATE is a whole number of kilobits, 0 to 4294967295 (refused 5)\n",
+            b"trial: write",
         );
         return;
     };
@@ -32,6 +34,7 @@ fn main() {
         put(
             STDERR_FILENO,
             b"trial: DEPTH is a whole number of kilobits, 0 to 4294967295 (refused 5)\n",
+            b"trial: write",
         );
         return;
     };
@@ -54,8 +57,8 @@ fn argument(index: usize) -> NumberAnswer {
 
 fn print_trial(bucket: Bucket) {
     let mut order = [0u8; ORDER_ROOM];
-    let length = read_all(&mut order);
+    let length = read_all(&mut order, b"trial: standard input");
     let mut text = [0u8; LONGEST_TRIAL];
     let answer = trial_line(&order[..length], bucket, &mut text);
-    print(answer, &text);
+    print(answer, &text, b"trial: write");
 }

@@ -16,10 +16,10 @@ use Rattle.console.proofs.read_all.Statement.{statement}
 use Rattle.console.proofs.read_all.Tie as tie
 
 abbrev Inv-loop : tie.InvT-loop
-Inv-loop room₀ done₀ room done = (length room ≡ length room₀) × (done ≤ length room)
+Inv-loop room₀ what done₀ room done = (length room ≡ length room₀) × (done ≤ length room)
 
 abbrev μ-loop : tie.MeasureT-loop
-μ-loop room₀ done₀ room done = length room - done
+μ-loop room₀ what done₀ room done = length room - done
 
 -- no more bytes are counted than were moved
 few : (n m : ℕ) (z : ℤ) → Moved n z → clamped z m ≤ n
@@ -52,8 +52,8 @@ part-read-end c = search needs
 read-requires : tie.Need-read-requires Inv-loop μ-loop
 read-requires c κs = search needs
 
-say-unread-requires : tie.Need-say-unread-requires Inv-loop μ-loop
-say-unread-requires c κs = search needs
+fail-requires : tie.Need-fail-requires Inv-loop μ-loop
+fail-requires c κs = search needs
 
 same-length : tie.Need-same-length Inv-loop μ-loop
 same-length c = omega (arith, c .before .before .before .room .given, c .before .before .before .before .before .before .before .loop .inv .0)
@@ -110,7 +110,7 @@ read-all-spec =
     part-read-start
     part-read-end
     read-requires
-    say-unread-requires
+    fail-requires
     same-length
     returns
     count-requires

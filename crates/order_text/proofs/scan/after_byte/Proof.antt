@@ -5,7 +5,7 @@ use borrow.Author.Needs.{needs}
 use Rattle.terms.specs.Bools.{check-passed, check-failed}
 use Rattle.order_text.specs.declared.scan.Step.{Step}
 use Rattle.order_text.specs.Text.{Scan, read, onRead, afterByte, closed, passed}
-use Rattle.order_text.specs.ScanLaws.{after-comment, after-digit, after-end, after-byte, closes, closes-line}
+use Rattle.order_text.specs.ScanLaws.{after-comment, after-digit, after-end, after-byte, closes, closes-line, closes-place}
 use Rattle.order_text.specs.Cursors.{scanOf, stepSays, StepFits}
 use Rattle.order_text.proofs.scan.after_byte.Statement.{statement}
 use Rattle.order_text.proofs.scan.after_byte.Tie as tie
@@ -28,7 +28,7 @@ ends c r e =
     ∙ sym (after-end (begins s) (s .args .byte) (d .before .before .if1 .left) (sym (d .before .is-digit .ensures) ∙ d .if2 .left) (check-passed (b .before .ends-figure .ensures) (b .if3 .left)))
 
 pass-requires : tie.Need-pass-requires
-pass-requires c κs = search needs
+pass-requires c κs = c .before .before .pre .1 .1
 
 returns : tie.Need-returns
 returns c =
@@ -41,7 +41,7 @@ is-digit-requires c κs = search needs
 with-digit-requires : tie.Need-with-digit-requires
 with-digit-requires c κs =
     let s = c .before .before .before .before in
-    (s .pre .1 .0, sym (c .before .is-digit .ensures) ∙ c .if2 .taken)
+    (s .pre .1 .0, (s .pre .1 .1, sym (c .before .is-digit .ensures) ∙ c .if2 .taken))
 
 returns-2 : tie.Need-returns-2
 returns-2 c =
@@ -75,7 +75,8 @@ pass-requires-2 : tie.Need-pass-requires-2
 pass-requires-2 c κs =
     let d = c .before .before .before .before .before in
     let s = d .before .before .before .before .before .before .before .before in
-    omega (arith, s .pre .1 .1, closes-line (closes (begins s) _ (sym (comes-to d _ (c .before .next .given .1)))))
+    let k = closes (begins s) _ (sym (comes-to d _ (c .before .next .given .1))) in
+    record { lines = omega (arith, s .pre .1 .1 .lines, closes-line k); places = omega (arith, s .pre .1 .1 .places, closes-place k) }
 
 enum-known-fault : tie.Need-enum-known-fault
 enum-known-fault c = search needs

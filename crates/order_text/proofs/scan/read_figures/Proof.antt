@@ -5,7 +5,7 @@ use borrow.Author.Needs.{needs}
 use lib.ListN.{length}
 use Rattle.typed_figures.specs.Figures.{figuresLimit}
 use Rattle.order_text.specs.declared.scan.Step.{Step}
-use Rattle.order_text.specs.Text.{started, scanned, enough, onRead, thenRead, figuresOf}
+use Rattle.order_text.specs.Text.{wholeScan, enough, onRead, thenRead, figuresOf}
 use Rattle.order_text.specs.ScanLaws.{text-scanned, text-closed, enough-few, enough-all}
 use Rattle.order_text.specs.Cursors.{Fits, StepFits, scanOf, stepSays}
 use Rattle.order_text.specs.CursorLaws.{count-is}
@@ -13,7 +13,7 @@ use Rattle.order_text.proofs.scan.read_figures.Statement.{statement}
 use Rattle.order_text.proofs.scan.read_figures.Tie as tie
 
 -- what the scan comes to
-scans : (c : tie.After-scan) (r : Step) → c .scan .result ≡ r → scanned started (c .before .before .before .before .args .text .now) ≡ stepSays r (c .scan .last .1 .0)
+scans : (c : tie.After-scan) (r : Step) → c .scan .result ≡ r → wholeScan (c .before .before .before .before .args .text .now) ≡ stepSays r (c .scan .last .1 .0)
 scans c r e = sym (c .scan .ensures .0) ∙ ap (λ (x : Step). stepSays x (c .scan .last .1 .0)) e
 
 -- … and the end of the last figure

@@ -44,12 +44,16 @@ returns-2 c =
     let s = e .before .before in
     above-steps (s .args .at) _ (s .pre .0) (omega (arith, e .if1 .left)) _ (comes-to p ∙ ap pushSays (c .before .enum-told .given .1)) (c .fault-at2 .ensures)
 
+add-t9 : tie.Need-add-t9
+add-t9 c = omega (arith, c .before .before .before .before .before .before .before .before .pre .1 .0 .places)
+
 returns-3 : tie.Need-returns-3
 returns-3 c =
-    let p = c .before .before .before in
+    let v = c .before .before in
+    let p = v .before .before in
     let e = p .before .before in
     let s = e .before .before in
-    digit-steps (s .args .at) _ (s .pre .0) (omega (arith, e .if1 .left)) _ (comes-to p ∙ ap pushSays (c .before .value .given .1))
+    digit-steps (s .args .at) _ (s .pre .0) (omega (arith, e .if1 .left)) _ (comes-to p ∙ ap pushSays (v .value .given .1))
 
 pub with-digit-spec : {M : Type 1} → statement M
 with-digit-spec =
@@ -63,4 +67,5 @@ with-digit-spec =
     enum-told
     fault-at-requires-2
     returns-2
+    add-t9
     returns-3)

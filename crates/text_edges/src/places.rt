@@ -1,0 +1,70 @@
+// The word around each place of a text, and the places of faults with the words around them.
+use order_text::TextAnswer;
+use order_text::order_of_text;
+use order_text::word_at;
+use samples::file_bytes::FILE_ROOM;
+use samples::file_bytes::LENT;
+
+pub fn edges() {
+    words();
+    marked();
+    faults();
+    ends();
+}
+
+fn words() {
+    every_place(b"");
+    every_place(b"two");
+    every_place(b" 12\t3#4\r5\n");
+}
+
+fn marked() {
+    every_place(b"\xef\xbb\xbf12 3");
+    every_place(b" \xef\xbb\xbf1");
+}
+
+// The lengths of the words around all places of a text, and around some behind it.
+fn every_place(text: &[u8]) {
+    report::words(b"words of");
+    lengths(text);
+    length(text, text.len());
+    length(text, usize::MAX);
+    report::words(b" bytes");
+    report::end_line();
+}
+
+fn lengths(text: &[u8]) {
+    for place in 0..text.len() {
+        length(text, place);
+    }
+}
+
+fn length(text: &[u8], place: usize) {
+    report::number(word_at(text, place).len() as u64);
+}
+
+fn faults() {
+    fault(b"2 1 4x5 1");
+    fault(b"2 1\n1000000001 1");
+    fault(b"2 1 4 3 2# q");
+    fault(b"2 1 4 0 0");
+    fault(b"\xef\xbb\xbf2 two");
+}
+
+fn ends() {
+    fault(b"");
+    fault(b"2 1 4 \r\n");
+    fault(b"\xef\xbb\xbf");
+}
+
+fn fault(text: &[u8]) {
+    let mut file = [LENT; FILE_ROOM];
+    let TextAnswer::Faulty(fault) = order_of_text(text, &mut file) else {
+        return;
+    };
+    report::figure(b"fault at", fault.place as u64);
+    report::words(b": [");
+    report::words(word_at(text, fault.place));
+    report::words(b"]");
+    report::end_line();
+}
