@@ -21,7 +21,8 @@ use Rattle.order_text.specs.declared.scan.Cursor.{Cursor}
 use Rattle.order_text.specs.declared.scan.Step.{Step}
 use Rattle.order_text.specs.declared.scan.Step.the-variants.{On, Faulty}
 use Rattle.order_text.specs.Text.{read, faulty, markLength, carriageReturn, hash, endsLine, started, faultAt, unlessAbove, withDigit, closed, afterByte, scanned, wholeScan}
-use Rattle.order_text.specs.ScanLaws.{digit-many, digit-value, closed-factor, closed-figure, goes, goes-line, goes-place, scanned-next, scanned-end}
+use Rattle.order_text.specs.ScanLaws.{digit-many, digit-value, closed-factor, closed-figure, goes, goes-line, scanned-next, scanned-end}
+use Rattle.order_text.specs.PlaceLaws.{At, after-at}
 use Rattle.order_text.specs.Cursors.{scanOf, stepSays, Fits, StepFits, Steps, Passes}
 
 pub count-is : (c : Cursor) (xs : List ℕ) → Fits c → length xs ≡ figuresLimit → length (take (c .count) xs) ≡ c .count
@@ -138,12 +139,12 @@ module _ {text xs : List ℕ} {c : Cursor} {i : ℕ} (s : Scanning text xs c i) 
     pub scan-next : (d : Cursor) → r ≡ On d → StepFits r → length xs′ ≡ length xs → Scanning text xs′ d (i + 1)
     scan-next d k f m =
         let h : afterByte (scanOf c xs) (getD text i 0) ≡ read (scanOf d xs′) = sym e ∙ ap (λ (x : Step). stepSays x xs′) k in
-        let g = goes (scanOf c xs) (scanOf d xs′) (getD text i 0) h in
+        let p = subst (At (c .place + 1) (c .place)) h (after-at (scanOf c xs) (getD text i 0)) in
         record {
           left = sym (scanned-next (scanOf c xs) text i _ l h) ∙ s .left;
           fits = subst StepFits k f;
-          lines = omega (arith, s .lines, goes-line g);
-          place = omega (arith, s .place, goes-place g);
+          lines = omega (arith, s .lines, goes-line (goes (scanOf c xs) (scanOf d xs′) (getD text i 0) h));
+          place = omega (arith, s .place, p);
           same = m ∙ s .same;
         }
 

@@ -1,4 +1,4 @@
--- The place of a fault is inside the text, or at its end: each step goes on by one byte, and a fault is where it stops.
+-- Each step goes on by one byte, and a fault is where it stops: so its place is inside the text, or at its end.
 -- Assumes nothing.
 use Prim.Native.Nat.{ℕ, suc, _+_, _≤_, _<_}
 use native.Mathlib.Omega.{arith}
@@ -17,14 +17,14 @@ use Rattle.order_text.specs.Text.{Reading, read, faulty, onRead, thenRea
 use Rattle.order_text.specs.WordLaws.{short-unmarked}
 
 -- What is read has come to n, and a fault is at m.
-abbrev At : ℕ → ℕ → Reading Scan → Type 0
+abbrev pub At : ℕ → ℕ → Reading Scan → Type 0
 At n m (read t) = t .place ≡ n
 At n m (faulty x) = x .place ≡ m
 
 -- ---- One step
 
 module _ (s : Scan) where
-  closed-at : At (s .place) (s .place) (closed s)
+  pub closed-at : At (s .place) (s .place) (closed s)
   closed-at = go (s .begun) (factorStands (length (s .figures)) (getD (s .figures) 3 0) (s .value))
     where
       go : (begun stands : Bool) → At (s .place) (s .place) (cond begun (cond stands (read (withFigure s)) (faulty (faultAt Factor s))) (read s))
@@ -45,7 +45,7 @@ module _ (s : Scan) where
     passed-at (read t) e = ap (λ (n : ℕ). n + 1) e
     passed-at (faulty x) e = e
 
-    after-at : At (s .place + 1) (s .place) (afterByte s b)
+    pub after-at : At (s .place + 1) (s .place) (afterByte s b)
     after-at = go (s .comment) (isDigit b) (endsFigure b) digit-at (passed-at (closed s) closed-at)
       where
         go : (comment digit end : Bool) → At (s .place + 1) (s .place) (withDigit s b) → At (s .place + 1) (s .place) (onRead (λ t. passed t b) (closed s))

@@ -1,4 +1,4 @@
--- The scan case by case: what each byte does, and how far a step goes on in the lines and the bytes.
+-- The scan case by case: what each byte does, and how far a step goes on in the lines.
 -- Assumes nothing.
 use Prim.Native.Nat.{ℕ, _+_, _≤_, _<_}
 use native.Mathlib.Omega.{arith}
@@ -109,15 +109,11 @@ goes s t b = go (s .comment) (isDigit b) (endsFigure b)
     go false false true e = let k = on-read (λ u. passed u b) (closed s) e in subst (Goes s b) (k .2) (past (closes s (k .0) (k .1)))
     go false false false e = absurd (read-faulty (sym e))
 
--- ---- A step goes on by one byte, and by one line at the most
+-- ---- Lines: a step goes on by one at the most
 
 pub closes-line : {s t : Scan} → Closes s t → t .line ≡ s .line
 closes-line idle = refl
 closes-line (ended h k) = refl
-
-pub closes-place : {s t : Scan} → Closes s t → t .place ≡ s .place
-closes-place idle = refl
-closes-place (ended h k) = refl
 
 passed-line : (t : Bool) (n : ℕ) → cond t (n + 1) n ≤ n + 1
 passed-line true n = omega arith
@@ -126,10 +122,6 @@ passed-line false n = omega arith
 pub goes-line : {s t : Scan} {b : ℕ} → Goes s b t → t .line ≤ s .line + 1
 goes-line (inside n l e) = omega arith
 goes-line {b = b} (past {t} c) = omega (arith, closes-line c, passed-line (endsLine (t .returned) b) (t .line))
-
-pub goes-place : {s t : Scan} {b : ℕ} → Goes s b t → t .place ≡ s .place + 1
-goes-place (inside n l e) = refl
-goes-place (past c) = ap (λ (n : ℕ). n + 1) (closes-place c)
 
 -- ---- A text, from its i-th byte on
 

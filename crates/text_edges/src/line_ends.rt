@@ -6,12 +6,12 @@ pub fn edges() {
     faults();
     mixed();
     comments();
-    tails();
 }
 
 fn faults() {
     edge(b"returns", b"2\r\r1\rx");
     edge(b"both together", b"2\r\n\r\n1\r\nx");
+    edge(b"three returns", b"\r\r\r");
 }
 
 fn mixed() {
@@ -22,16 +22,13 @@ fn mixed() {
 }
 
 fn comments() {
-    edge(b"ended by a return", b"2 1 4 1 2 4095 1000000 # 9\r4 8 2");
-    edge(b"ended by both", b"2 1 4 1 2 4095 1000000 # 9\r\n4 8 2");
     edge(
-        b"a line of returns",
-        b"# 9\r# 9\r2 1 4 1 2 4095 1000000\r# 9\r4 8 2\r# 9",
+        b"comments ended by returns",
+        b"# 9\r2 1 4 1 2 4095 1000000 # 9\r4 8 2",
+    );
+    edge(
+        b"comments ended by both",
+        b"# 9\r\n2 1 4 1 2 4095 1000000 # 9\r\n4 8 2",
     );
     edge(b"a fault behind some", b"# 1\r# 2\r\n# 3\n2 x # 4");
-}
-
-fn tails() {
-    edge(b"both at the end", b"2\r\n");
-    edge(b"three returns", b"\r\r\r");
 }

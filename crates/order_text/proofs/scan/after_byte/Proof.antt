@@ -5,7 +5,8 @@ use borrow.Author.Needs.{needs}
 use Rattle.terms.specs.Bools.{check-passed, check-failed}
 use Rattle.order_text.specs.declared.scan.Step.{Step}
 use Rattle.order_text.specs.Text.{Scan, read, onRead, afterByte, closed, passed}
-use Rattle.order_text.specs.ScanLaws.{after-comment, after-digit, after-end, after-byte, closes, closes-line, closes-place}
+use Rattle.order_text.specs.ScanLaws.{after-comment, after-digit, after-end, after-byte, closes, closes-line}
+use Rattle.order_text.specs.PlaceLaws.{At, closed-at}
 use Rattle.order_text.specs.Cursors.{scanOf, stepSays, StepFits}
 use Rattle.order_text.proofs.scan.after_byte.Statement.{statement}
 use Rattle.order_text.proofs.scan.after_byte.Tie as tie
@@ -75,8 +76,9 @@ pass-requires-2 : tie.Need-pass-requires-2
 pass-requires-2 c κs =
     let d = c .before .before .before .before .before in
     let s = d .before .before .before .before .before .before .before .before in
-    let k = closes (begins s) _ (sym (comes-to d _ (c .before .next .given .1))) in
-    record { lines = omega (arith, s .pre .1 .1 .lines, closes-line k); places = omega (arith, s .pre .1 .1 .places, closes-place k) }
+    let k = sym (comes-to d _ (c .before .next .given .1)) in
+    let p = subst (At (s .args .at .place) (s .args .at .place)) k (closed-at (begins s)) in
+    record { lines = omega (arith, s .pre .1 .1 .lines, closes-line (closes (begins s) _ k)); places = omega (arith, s .pre .1 .1 .places, p) }
 
 enum-known-fault : tie.Need-enum-known-fault
 enum-known-fault c = search needs
