@@ -6,7 +6,8 @@
  *
  * The archive is for x86-64 Linux and needs nothing but the C library. Every call is proved to answer as document 01
  * says, for whatever is handed over (docs/SCOPE.md has its rules, docs/SPECS.md what is proved). It keeps no state and
- * no pointer, so any thread may make any call at any time.
+ * no pointer, so any thread may make any call at any time; it asks for no memory, and takes less than 80 kilobytes of
+ * stack.
  *
  * An ANSWER is one number: the figure asked for, or METQORAZ_REFUSED and the number of a refusal. Every figure is below
  * METQORAZ_REFUSED; metqoraz_refusal tells the two apart. After a refusal all that was lent holds what it held.
