@@ -8,8 +8,10 @@ use mathlib.Core.List.{List}
 use lib.ListN.{length, take}
 use Rattle.terms.specs.declared.Tariff.{Tariff}
 use Rattle.terms.specs.Answer.{Answer, figures, refused, andThen}
-use Rattle.terms.specs.AnswerLaws.{on-refused, then-figures, then-refused}
+use Rattle.terms.specs.AnswerLaws.{on-refused, then-figures, then-refused, weigh-figures}
 use Rattle.terms.specs.Limits.{traceLimit}
+use Rattle.terms.specs.Ranges.{periodsOk, tariffOk}
+use Rattle.terms.specs.RangeLaws.{periods-range, tariff-range}
 use Rattle.terms.specs.RangeRules.{BucketRange, TariffRange}
 use Rattle.single.specs.declared.costs.Priced.{Priced}
 use Rattle.single.specs.CostLaws.{cost-le}
@@ -54,3 +56,10 @@ priced-short t ds x h few e =
     let k = single-cheapest t ds e in
     let b : BucketRange (x .bucket) = record { rates = le-trans (k .serves .rates) (h .rate-caps); depths = le-trans (k .serves .depths) (h .depth-caps) } in
     single-short (x .bucket) (x .cost) b (omega (arith, k .paid, cost-le {t = t} {b = x .bucket} h b (length ds), few))
+
+-- … whatever tariff and trace are asked for: the single call weighs them.
+pub found-short : (t : Tariff) (ds : List ℕ) (x : Priced) → singleOf t ds ≡ figures x → length (singleLine (x .bucket) (x .cost)) ≤ longestSingle
+unfolding singleOf
+found-short t ds x e =
+    let a = weigh-figures (periodsOk (length ds)) 3 _ e in
+    priced-short t ds x (tariff-range t (weigh-figures (tariffOk t) 5 _ (a .1) .0)) (periods-range (length ds) (a .0) .few) e
