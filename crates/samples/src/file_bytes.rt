@@ -14,6 +14,9 @@ pub const FILE_ROOM: usize = 4 * WORDS;
 // Some more bytes than the longest file has, a plan of 512 buckets.
 pub const LENT_BYTES: usize = LONGEST_PLAN + 8;
 
+// As great as 4 bytes hold.
+pub const MOST: u32 = 4_294_967_295;
+
 // What lent bytes hold before a call.
 pub const LENT: u8 = 0xAA;
 
