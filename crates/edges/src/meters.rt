@@ -4,6 +4,8 @@ use crate::bucket_of;
 use meter::Meter;
 use meter::MeterAnswer;
 use meter::OfferAnswer;
+use samples::tariffs::half;
+use terms::Bucket;
 use terms::Factor;
 
 pub fn edges() {
@@ -13,7 +15,7 @@ pub fn edges() {
     opening(b"q 0", 5, 4, 0, 0);
     opening(b"q 1001", 5, 4, 1, 1001);
     opening(b"p one above q", 5, 4, 3, 2);
-    offers(b"in order", record_of(5, 4, 1, 2, 0, 4, 22, 1, 0));
+    offers(b"in order", case_of(0, 4, 22, 1, 0));
     buckets();
     counts();
     totals();
@@ -38,13 +40,10 @@ pub fn answer(a: MeterAnswer) {
     report::end_line();
 }
 
-// A record by its nine figures, in document 01's order: rate, depth, p, q, tokens held, periods,
-// sent, over, lost.
+// The record of a meter on a bucket.
 fn record_of(
-    rate: u32,
-    depth: u32,
-    p: u32,
-    q: u32,
+    bucket: Bucket,
+    factor: Factor,
     held: u32,
     periods: u32,
     sent: u64,
@@ -52,8 +51,8 @@ fn record_of(
     lost: u64,
 ) -> Meter {
     Meter {
-        bucket: bucket_of(rate, depth),
-        factor: Factor { p, q },
+        bucket,
+        factor,
         held,
         periods,
         sent,
@@ -62,79 +61,69 @@ fn record_of(
     }
 }
 
+// The same of rate 5, depth 4 and factor 1/2.
+fn case_of(held: u32, periods: u32, sent: u64, over: u64, lost: u64) -> Meter {
+    record_of(bucket_of(5, 4), half(), held, periods, sent, over, lost)
+}
+
 // Each breaks one rule only: what was sent keeps the balance.
 fn buckets() {
-    offers(b"rate 4096", record_of(4096, 4, 1, 2, 0, 4, 16_386, 1, 0));
+    with_bucket(b"rate 4096", 4096, 4, half(), 16_386);
+    with_bucket(b"depth 1000001", 5, 1_000_001, half(), 500_020);
+    with_bucket(b"q 0", 5, 4, Factor { p: 0, q: 0 }, 20);
+    with_bucket(b"q 1001", 5, 4, Factor { p: 1, q: 1001 }, 20);
+    with_bucket(b"p one above q", 5, 4, Factor { p: 3, q: 2 }, 26);
+}
+
+// A record of four periods that holds no tokens.
+fn with_bucket(edge: &[u8], rate: u32, depth: u32, factor: Factor, sent: u64) {
     offers(
-        b"depth 1000001",
-        record_of(5, 1_000_001, 1, 2, 0, 4, 500_020, 1, 0),
+        edge,
+        record_of(bucket_of(rate, depth), factor, 0, 4, sent, 1, 0),
     );
-    offers(b"q 0", record_of(5, 4, 0, 0, 0, 4, 20, 1, 0));
-    offers(b"q 1001", record_of(5, 4, 1, 1001, 0, 4, 20, 1, 0));
-    offers(b"p one above q", record_of(5, 4, 3, 2, 0, 4, 26, 1, 0));
 }
 
 fn counts() {
-    offers(
-        b"tokens one above depth",
-        record_of(5, 4, 1, 2, 5, 4, 17, 1, 0),
-    );
-    offers(
-        b"1000001 periods",
-        record_of(5, 4, 1, 2, 0, 1_000_001, 5_000_007, 1, 0),
-    );
-    offers(
-        b"one token sent too many",
-        record_of(5, 4, 1, 2, 0, 4, 23, 1, 0),
-    );
-    offers(
-        b"one token lost too many",
-        record_of(5, 4, 1, 2, 0, 4, 22, 1, 1),
-    );
-    offers(
-        b"over 65535 x periods",
-        record_of(5, 4, 1, 2, 0, 4, 22, 262_140, 0),
-    );
+    offers(b"tokens one above depth", case_of(5, 4, 17, 1, 0));
+    offers(b"1000001 periods", case_of(0, 1_000_001, 5_000_007, 1, 0));
+    offers(b"one token sent too many", case_of(0, 4, 23, 1, 0));
+    offers(b"one token lost too many", case_of(0, 4, 22, 1, 1));
+    offers(b"over 65535 x periods", case_of(0, 4, 22, 262_140, 0));
     offers(
         b"over one above 65535 x periods",
-        record_of(5, 4, 1, 2, 0, 4, 22, 262_141, 0),
+        case_of(0, 4, 22, 262_141, 0),
     );
 }
 
 // A total above its limit breaks another rule too, and so does a record of greatest figures.
 fn totals() {
+    let above: u64 = 100_000_000_001;
+    offers(b"sent above its limit", case_of(0, 4, above, 1, 0));
+    offers(b"over above its limit", case_of(0, 4, 22, above, 0));
+    offers(b"lost above its limit", case_of(0, 4, 22, 1, above));
     let most: u32 = 4_294_967_295;
     let total: u64 = 18_446_744_073_709_551_615;
-    offers(
-        b"sent above its limit",
-        record_of(5, 4, 1, 2, 0, 4, 100_000_000_001, 1, 0),
-    );
-    offers(
-        b"over above its limit",
-        record_of(5, 4, 1, 2, 0, 4, 22, 100_000_000_001, 0),
-    );
-    offers(
-        b"lost above its limit",
-        record_of(5, 4, 1, 2, 0, 4, 22, 1, 100_000_000_001),
-    );
+    let greatest = Factor { p: most, q: most };
     offers(
         b"every figure at its greatest",
-        record_of(most, most, most, most, most, most, total, total, total),
+        record_of(
+            bucket_of(most, most),
+            greatest,
+            most,
+            most,
+            total,
+            total,
+            total,
+        ),
     );
 }
 
 fn last_periods() {
-    offers(
-        b"999999 periods",
-        record_of(5, 4, 1, 2, 0, 999_999, 4_999_997, 1, 0),
-    );
-    offers(
-        b"1000000 periods",
-        record_of(5, 4, 1, 2, 0, 1_000_000, 5_000_002, 1, 0),
-    );
+    offers(b"999999 periods", case_of(0, 999_999, 4_999_997, 1, 0));
+    offers(b"1000000 periods", case_of(0, 1_000_000, 5_000_002, 1, 0));
     offers(
         b"1000000 periods and one token too many",
-        record_of(5, 4, 1, 2, 0, 1_000_000, 5_000_003, 1, 0),
+        case_of(0, 1_000_000, 5_000_003, 1, 0),
     );
 }
 
@@ -166,16 +155,11 @@ fn offering(edge: &[u8], m: Meter, demand: u16) {
 }
 
 fn figures(m: Meter) {
-    report::words(b" tokens");
-    report::number(m.held as u64);
-    report::words(b" periods");
-    report::number(m.periods as u64);
-    report::words(b" sent");
-    report::number(m.sent);
-    report::words(b" over");
-    report::number(m.over);
-    report::words(b" lost");
-    report::number(m.lost);
+    report::figure(b" tokens", m.held as u64);
+    report::figure(b" periods", m.periods as u64);
+    report::figure(b" sent", m.sent);
+    report::figure(b" over", m.over);
+    report::figure(b" lost", m.lost);
 }
 
 fn same(a: Meter, b: Meter) -> bool {
@@ -192,7 +176,7 @@ fn same(a: Meter, b: Meter) -> bool {
 
 // A meter takes 1,000,000 offers and refuses the next.
 fn until_full() {
-    let full = after_offers(record_of(5, 4, 1, 2, 2, 0, 0, 0, 0), 6, 1_000_000);
+    let full = after_offers(case_of(2, 0, 0, 0, 0), 6, 1_000_000);
     report::words(b"after 1000000 offers of 6:");
     figures(full);
     report::end_line();

@@ -93,29 +93,37 @@ module _ {xs old new : List ℕ} {i : ℕ} (s : Storing old 0 xs new i (drop i x
   pub copied-next : i < length xs → Copying xs old (set new i (getD xs i 0)) (i + 1)
   copied-next l = one-stored s (getD xs i 0) (drop (i + 1) xs) (drop-next xs i 0 l)
 
+  pub copied-inside : length xs ≤ length old → i < length xs → i < length new
+  copied-inside h l = omega (arith, s .same)
+
   pub copied-all : length xs ≤ i → new ≡ sets old 0 xs
   copied-all l = all-stored s (drop-of-length-le xs l)
 
+  pub copied-front : length xs ≤ length old → length xs ≤ i → new ≡ xs ++ drop (length xs) old
+  copied-front h l = copied-all l ∙ sets-front xs old h
+
 -- ---- Numbers of w bytes stored one by one
 
--- The numbers `ns` are being stored in `old` from `at` on: those from the i-th on are left.
+-- The numbers `ns` are being stored in `old`, which has room for them, from `at` on: those from the i-th on are left.
 pub record Putting (w : ℕ) (old : List ℕ) (at : ℕ) (ns new : List ℕ) (next i : ℕ) : Type 0 where
+  pub room : at + w * length ns ≤ length old
   pub place : next ≡ at + w * i
   pub stored : Storing old at (bytesOfAll (bytesOf w) ns) new next (bytesOfAll (bytesOf w) (drop i ns))
 
-pub put-begin : (w : ℕ) (old : List ℕ) (at : ℕ) (ns : List ℕ) → Putting w old at ns old at 0
-put-begin w old at ns = record { place = omega (arith, mul-zero w); stored = none-stored old at (bytesOfAll (bytesOf w) ns) }
+pub put-begin : (w : ℕ) (old : List ℕ) (at : ℕ) (ns : List ℕ) → at + w * length ns ≤ length old → Putting w old at ns old at 0
+put-begin w old at ns h = record { room = h; place = omega (arith, mul-zero w); stored = none-stored old at (bytesOfAll (bytesOf w) ns) }
 
 module _ {w : ℕ} {old : List ℕ} {at : ℕ} {ns new : List ℕ} {next i : ℕ} (p : Putting w old at ns new next i) where
-  pub put-inside : i < length ns → at + w * length ns ≤ length old → next + w ≤ length new
-  put-inside h m =
+  pub put-inside : i < length ns → next + w ≤ length new
+  put-inside h =
       let e = mul-suc w i in
       let l : w * suc i ≤ w * length ns = mul-le-mul (le-refl w) h in
-      omega (arith, p .place, p .stored .same)
+      omega (arith, p .room, p .place, p .stored .same)
 
   pub put-next : i < length ns → (new′ : List ℕ) → new′ ≡ sets new next (bytesOf w (getD ns i 0)) → Putting w old at ns new′ (next + w) (i + 1)
   put-next h new′ e =
       record {
+        room = p .room;
         place = omega (arith, p .place, mul-suc w i, ap (λ (n : ℕ). w * n) (add-one i));
         stored = some-stored (p .stored) (bytesOf w (getD ns i 0)) _ new′ w (length-bytes w _) (bytes-next (bytesOf w) ns i 0 h) e;
       }

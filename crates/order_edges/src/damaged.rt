@@ -16,6 +16,7 @@ use crate::order::TRACE_OFFSET;
 use crate::order::print_field;
 use order_file::read_order;
 use order_file::trace_part;
+use samples::file_bytes::MOST;
 use samples::file_bytes::WORDS;
 use samples::file_bytes::bytes_of;
 use samples::file_bytes::front;
@@ -24,8 +25,7 @@ use samples::file_bytes::with_word;
 pub fn edges() {
     lengths();
     header();
-    prices();
-    factors_and_caps();
+    tariff();
     two_at_once();
     all_at_once();
     megabyte();
@@ -53,6 +53,13 @@ fn cut(words: [u32; WORDS], length: usize) {
 fn one(at: usize, value: u32, length: usize) {
     print_field(at, value);
     cut(with_word(ORDER, at, value), length);
+}
+
+// One number changed to each of these, and no byte cut off.
+fn each(at: usize, values: &[u32]) {
+    for i in 0..values.len() {
+        one(at, values[i], 54);
+    }
 }
 
 // Two numbers changed.
@@ -84,72 +91,28 @@ fn lengths() {
 // Of the kinds some would be 1 if not all bytes were read, or in another order. For 2147483651
 // periods the length would be 54 if its sum were cut to 32 bits.
 fn header() {
-    one(KIND, 0, 54);
-    one(KIND, 2, 54);
-    one(KIND, 256, 54);
-    one(KIND, 257, 54);
-    one(KIND, 65_537, 54);
-    one(KIND, 16_777_216, 54);
-    one(KIND, 16_777_217, 54);
-    one(PERIODS, 0, 54);
-    one(PERIODS, 2, 54);
-    one(PERIODS, 4, 54);
-    one(PERIODS, 512, 54);
-    one(PERIODS, 513, 54);
-    one(PERIODS, 65_539, 54);
-    one(PERIODS, 2_147_483_651, 54);
-    one(PERIODS, 4_294_967_295, 54);
-    one(TARIFF_OFFSET, 19, 54);
-    one(TARIFF_OFFSET, 21, 54);
-    one(TARIFF_OFFSET, 276, 54);
-    one(TRACE_OFFSET, 47, 54);
-    one(TRACE_OFFSET, 49, 54);
-    one(TRACE_OFFSET, 304, 54);
-    one(LENGTH, 53, 54);
-    one(LENGTH, 55, 54);
-    one(LENGTH, 310, 54);
+    each(KIND, &[0, 2, 256, 257, 65_537, 16_777_216, 16_777_217]);
+    each(PERIODS, &[0, 2, 4, 512, 513, 65_539, 2_147_483_651, MOST]);
+    each(TARIFF_OFFSET, &[19, 21, 276]);
+    each(TRACE_OFFSET, &[47, 49, 304]);
+    each(LENGTH, &[53, 55, 310]);
 }
 
-// Each at its limits, one past them, and as great as 4 bytes hold.
-fn prices() {
-    one(RATE_PRICE, 0, 54);
-    one(RATE_PRICE, 65_535, 54);
-    one(RATE_PRICE, 65_536, 54);
-    one(RATE_PRICE, 4_294_967_295, 54);
-    one(DEPTH_PRICE, 0, 54);
-    one(DEPTH_PRICE, 65_535, 54);
-    one(DEPTH_PRICE, 65_536, 54);
-    one(DEPTH_PRICE, 4_294_967_295, 54);
-    one(FEE, 0, 54);
-    one(FEE, 1_000_000_000, 54);
-    one(FEE, 1_000_000_001, 54);
-    one(FEE, 4_294_967_295, 54);
-}
-
-// The same; p stands beside q = 2, and q beside p = 1.
-fn factors_and_caps() {
-    one(P, 0, 54);
-    one(P, 2, 54);
-    one(P, 3, 54);
-    one(P, 4_294_967_295, 54);
-    one(Q, 0, 54);
-    one(Q, 1, 54);
-    one(Q, 1000, 54);
-    one(Q, 1001, 54);
-    one(Q, 4_294_967_295, 54);
+// Each at its limits, one past them, and as great as 4 bytes hold; p stands beside q = 2, and q beside
+// p = 1.
+fn tariff() {
+    each(RATE_PRICE, &[0, 65_535, 65_536, MOST]);
+    each(DEPTH_PRICE, &[0, 65_535, 65_536, MOST]);
+    each(FEE, &[0, 1_000_000_000, 1_000_000_001, MOST]);
+    each(P, &[0, 2, 3, MOST]);
+    each(Q, &[0, 1, 1000, 1001, MOST]);
     two(P, 0, Q, 0, 54);
     two(P, 0, Q, 1, 54);
     two(P, 1000, Q, 1000, 54);
     two(P, 1001, Q, 1000, 54);
     two(P, 1001, Q, 1001, 54);
-    one(RATE_CAP, 0, 54);
-    one(RATE_CAP, 4095, 54);
-    one(RATE_CAP, 4096, 54);
-    one(RATE_CAP, 4_294_967_295, 54);
-    one(DEPTH_CAP, 0, 54);
-    one(DEPTH_CAP, 1_000_000, 54);
-    one(DEPTH_CAP, 1_000_001, 54);
-    one(DEPTH_CAP, 4_294_967_295, 54);
+    each(RATE_CAP, &[0, 4095, 4096, MOST]);
+    each(DEPTH_CAP, &[0, 1_000_000, 1_000_001, MOST]);
 }
 
 // Two things wrong: the lower number.

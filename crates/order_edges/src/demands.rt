@@ -1,6 +1,7 @@
 // A trace of uneven demands, and the list of demands that spreading has filled.
 use encoding::FillAnswer;
 use samples::demands::are_lent;
+use samples::file_bytes::summed;
 use samples::lists::ENTRIES;
 use samples::lists::at_most;
 ghost use mathlib.Core.Path.{_≡_};
@@ -53,13 +54,9 @@ pub fn print_list(answer: FillAnswer, list: &[u16; ENTRIES]) {
 fn checksum(list: &[u16; ENTRIES], count: usize) -> u32 {
     let mut sum: u32 = 0;
     for i in 0..at_most(count, ENTRIES) {
-        sum = with_demand(sum, list[i]);
+        sum = summed(sum, list[i]);
     }
     sum
-}
-
-fn with_demand(sum: u32, demand: u16) -> u32 {
-    (sum % 1_000_003 * 257 + demand as u32) % 1_000_003
 }
 
 // Whether the trace stands at the front of the list.

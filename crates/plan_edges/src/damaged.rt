@@ -17,6 +17,7 @@ use crate::plan::RATE;
 use crate::plan::RUN;
 use crate::plan::print_field;
 use crate::reading::read_into;
+use samples::file_bytes::MOST;
 use samples::file_bytes::WORDS;
 use samples::file_bytes::bytes_of;
 use samples::file_bytes::front;
@@ -41,6 +42,13 @@ fn cut(words: [u32; WORDS], length: usize) {
 fn one(at: usize, value: u32, length: usize) {
     print_field(at, value);
     cut(with_word(PLAN, at, value), length);
+}
+
+// One number changed to each of these, and no byte cut off.
+fn each(at: usize, values: &[u32]) {
+    for i in 0..values.len() {
+        one(at, values[i], 56);
+    }
 }
 
 // Two numbers changed.
@@ -74,37 +82,12 @@ fn lengths() {
 // Of the kinds some would be 2 if not all bytes were read, or in another order. For 1073741826
 // buckets the length would be 56 if its sum were cut to 32 bits.
 fn header() {
-    one(KIND, 0, 56);
-    one(KIND, 1, 56);
-    one(KIND, 258, 56);
-    one(KIND, 512, 56);
-    one(KIND, 65_538, 56);
-    one(KIND, 33_554_432, 56);
-    one(KIND, 33_554_434, 56);
-    one(PERIODS, 0, 56);
-    one(PERIODS, 1, 56);
-    one(PERIODS, 2, 56);
-    one(PERIODS, 4, 56);
-    one(PERIODS, 512, 56);
-    one(PERIODS, 513, 56);
-    one(PERIODS, 65_539, 56);
-    one(PERIODS, 4_294_967_295, 56);
-    one(BUCKETS, 0, 56);
-    one(BUCKETS, 1, 56);
-    one(BUCKETS, 3, 56);
-    one(BUCKETS, 4, 56);
-    one(BUCKETS, 65_538, 56);
-    one(BUCKETS, 1_073_741_826, 56);
-    one(BUCKETS, 4_294_967_295, 56);
-    one(COST_OFFSET, 23, 56);
-    one(COST_OFFSET, 25, 56);
-    one(COST_OFFSET, 280, 56);
-    one(BUCKETS_OFFSET, 31, 56);
-    one(BUCKETS_OFFSET, 33, 56);
-    one(BUCKETS_OFFSET, 288, 56);
-    one(LENGTH, 55, 56);
-    one(LENGTH, 57, 56);
-    one(LENGTH, 312, 56);
+    each(KIND, &[0, 1, 258, 512, 65_538, 33_554_432, 33_554_434]);
+    each(PERIODS, &[0, 1, 2, 4, 512, 513, 65_539, MOST]);
+    each(BUCKETS, &[0, 1, 3, 4, 65_538, 1_073_741_826, MOST]);
+    each(COST_OFFSET, &[23, 25, 280]);
+    each(BUCKETS_OFFSET, &[31, 33, 288]);
+    each(LENGTH, &[55, 57, 312]);
 }
 
 // Costs 0, 2³² + 40, at the limit, one past it, 2⁴⁸ above it, and as great as 8 bytes hold. Run
@@ -116,24 +99,17 @@ fn figures() {
     two(COST, 276_447_232, COST_ABOVE, 23_283, 56);
     two(COST, 276_447_233, COST_ABOVE, 23_283, 56);
     two(COST, 276_447_232, COST_ABOVE, 88_819, 56);
-    two(COST, 4_294_967_295, COST_ABOVE, 4_294_967_295, 56);
+    two(COST, MOST, COST_ABOVE, MOST, 56);
     two(RUN, 1, LAST_RUN, 2, 56);
     two(RUN, 0, LAST_RUN, 3, 56);
     two(RUN, 3, LAST_RUN, 0, 56);
-    one(RUN, 1, 56);
-    one(RUN, 3, 56);
-    two(RUN, 4_294_967_295, LAST_RUN, 4, 56);
+    each(RUN, &[1, 3]);
+    two(RUN, MOST, LAST_RUN, 4, 56);
     two(RUN, 4_294_967_294, LAST_RUN, 5, 56);
-    one(RATE, 4095, 56);
-    one(RATE, 4096, 56);
-    one(RATE, 4_294_967_295, 56);
-    one(DEPTH, 1_000_000, 56);
-    one(DEPTH, 1_000_001, 56);
-    one(DEPTH, 4_294_967_295, 56);
-    one(LAST_RATE, 4095, 56);
-    one(LAST_RATE, 4096, 56);
-    one(LAST_DEPTH, 1_000_000, 56);
-    one(LAST_DEPTH, 1_000_001, 56);
+    each(RATE, &[4095, 4096, MOST]);
+    each(DEPTH, &[1_000_000, 1_000_001, MOST]);
+    each(LAST_RATE, &[4095, 4096]);
+    each(LAST_DEPTH, &[1_000_000, 1_000_001]);
 }
 
 // Two things wrong: the lower number.

@@ -10,8 +10,8 @@ use samples::file_bytes::LENT_BYTES;
 use samples::file_bytes::front;
 use samples::file_bytes::lent_front;
 use samples::lists::ENTRIES;
+use samples::lists::counted;
 use samples::lists::filled;
-use samples::lists::record_of;
 use terms::BucketRecord;
 
 pub fn edges() {
@@ -27,12 +27,7 @@ pub fn edges() {
 
 // Runs of one period, rates from 3,500 on and depths from 700 on.
 fn buckets() -> [BucketRecord; ENTRIES] {
-    let mut list = [record_of(0, 0, 0); ENTRIES];
-    for i in 0..ENTRIES {
-        let n = i as u32;
-        list[i] = record_of(1, 3500 + n, 700 + n);
-    }
-    list
+    counted(1, true, 3500, 700)
 }
 
 // The plan written into so many bytes.

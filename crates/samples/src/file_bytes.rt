@@ -14,6 +14,9 @@ pub const FILE_ROOM: usize = 4 * WORDS;
 // Some more bytes than the longest file has, a plan of 512 buckets.
 pub const LENT_BYTES: usize = LONGEST_PLAN + 8;
 
+// As great as 4 bytes hold.
+pub const MOST: u32 = 4_294_967_295;
+
 // What lent bytes hold before a call.
 pub const LENT: u8 = 0xAA;
 
@@ -69,7 +72,12 @@ pub fn checksum(bytes: &[u8; LENT_BYTES], length: usize) -> u32 {
 }
 
 fn with_byte(sum: u32, byte: u8) -> u32 {
-    (sum % 1_000_003 * 257 + byte as u32) % 1_000_003
+    summed(sum, byte as u16)
+}
+
+// A checksum with one number more.
+pub fn summed(sum: u32, n: u16) -> u32 {
+    (sum % 1_000_003 * 257 + n as u32) % 1_000_003
 }
 
 // Whether the bytes from one on are as they were lent.

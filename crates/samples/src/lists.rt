@@ -25,21 +25,29 @@ pub fn record_of(periods: u32, rate: u32, depth: u32) -> BucketRecord {
     BucketRecord { periods, bucket }
 }
 
-// The records whose run lengths, rates and depths count up from these.
-pub fn counted(periods: u32, rate: u32, depth: u32) -> [BucketRecord; ENTRIES]
+// The records whose rates and depths count up from these; so do their run lengths, unless all are
+// alike.
+pub fn counted(periods: u32, alike: bool, rate: u32, depth: u32) -> [BucketRecord; ENTRIES]
     requires { ⌜ (periods ≤ 30000) × (rate ≤ 30000) × (depth ≤ 30000) ⌝ }
 {
     let mut list = [record_of(0, 0, 0); ENTRIES];
     for i in 0..ENTRIES {
         let n = i as u32;
-        list[i] = record_of(periods + n, rate + n, depth + n);
+        list[i] = record_of(periods + longer(n, alike), rate + n, depth + n);
     }
     list
 }
 
+// How much longer the n-th run is than the first.
+fn longer(n: u32, alike: bool) -> u32
+    ensures { λ r. ⌜ r ≤ n ⌝ }
+{
+    if alike { 0 } else { n }
+}
+
 // What a lent list holds before a call.
 pub fn filled() -> [BucketRecord; ENTRIES] {
-    counted(10_000, 20_000, 30_000)
+    counted(10_000, false, 20_000, 30_000)
 }
 
 // Whether the records from one on are as they were filled.

@@ -12,26 +12,8 @@ Inv-loop count₀ n₀ count n = (count ≤ n) × (n ≤ 450000)
 abbrev μ-loop : tie.MeasureT-loop
 μ-loop count₀ n₀ count n = 450000 - n
 
-loop-holds : tie.Need-loop-holds Inv-loop μ-loop
-loop-holds c = omega arith
-
-agrees-requires : tie.Need-agrees-requires Inv-loop μ-loop
-agrees-requires c κs = search needs
-
-add-count : tie.Need-add-count Inv-loop μ-loop
-add-count c = omega arith
-
-add-n : tie.Need-add-n Inv-loop μ-loop
-add-n c = omega arith
-
-loop-less : tie.Need-loop-less Inv-loop μ-loop
-loop-less c = omega arith
-
 loop-again : tie.Need-loop-again Inv-loop μ-loop
 loop-again c = ⊎-elim (λ w. omega arith) (λ w. omega arith) (c .if1 .came)
-
-returns : tie.Need-returns Inv-loop μ-loop
-returns c = search needs
 
 pub agreed-spec : {M : Type 1} → statement M
 agreed-spec =
@@ -39,10 +21,10 @@ agreed-spec =
     (tie.spec
     Inv-loop
     μ-loop
-    loop-holds
-    agrees-requires
-    add-count
-    add-n
-    loop-less
+    (λ c. omega arith)
+    (λ c κs. search needs)
+    (λ c. omega arith)
+    (λ c. omega arith)
+    (λ c. omega arith)
     loop-again
-    returns)
+    (λ c. search needs))

@@ -9,11 +9,8 @@ use Rattle.order_edges.proofs.damaged.megabyte.Tie as tie
 slice-aggregate-reading : tie.Need-slice-aggregate-reading
 slice-aggregate-reading c = sym (length-replicate {0} {A = ℕ} 1048576 0)
 
-reading-requires : tie.Need-reading-requires
-reading-requires c κs = search needs
-
-returns : tie.Need-returns
-returns c = search needs
-
 pub megabyte-spec : {M : Type 1} → statement M
-megabyte-spec = tie.close (tie.spec slice-aggregate-reading reading-requires returns)
+megabyte-spec = tie.close (tie.spec
+    slice-aggregate-reading
+    (λ c κs. search needs)
+    (λ c. search needs))

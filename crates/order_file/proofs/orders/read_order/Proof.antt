@@ -41,38 +41,14 @@ places c =
 returns : tie.Need-returns
 returns c = (sym (order-short _ (lt-leb _ _ (c .if1 .taken))), tt)
 
-word-at-requires : tie.Need-word-at-requires
-word-at-requires c κs = search needs
-
 returns-2 : tie.Need-returns-2
 returns-2 c = (sym (order-foreign _ (long (c .before .before)) (ne-eqb _ _ (λ e. c .if2 .taken (c .before .word-at .ensures ∙ e)))), tt)
-
-word-at-requires-2 : tie.Need-word-at-requires-2
-word-at-requires-2 c κs = search needs
-
-cast-periods-in-range : tie.Need-cast-periods-in-range
-cast-periods-in-range c = search needs
-
-periods-in-range-requires : tie.Need-periods-in-range-requires
-periods-in-range-requires c κs = search needs
 
 returns-3 : tie.Need-returns-3
 returns-3 c =
     let d = c .before .before .before in
     let e = ap periodsOk (sym (c .before .before .word-at2 .ensures)) ∙ check-failed (c .before .periods-in-range .ensures) (c .if3 .taken) in
     (sym (order-periods _ (long (d .before .before)) (kind d) e), tt)
-
-cast-length : tie.Need-cast-length
-cast-length c = search needs
-
-mul-length : tie.Need-mul-length
-mul-length c = search needs
-
-add-length : tie.Need-add-length
-add-length c = search needs
-
-placed-requires : tie.Need-placed-requires
-placed-requires c κs = search needs
 
 returns-4 : tie.Need-returns-4
 returns-4 c =
@@ -86,9 +62,6 @@ tariff-in-requires : tie.Need-tariff-in-requires
 tariff-in-requires c κs =
     let bs = c .before .before .before .before .before .before .before .before .before .args .bytes .now in
     omega (arith, placed-range 8 tariffOffset traceOffset (orderLength (numberAt 4 bs 4)) bs (places c) .bytes)
-
-tariff-in-range-requires : tie.Need-tariff-in-range-requires
-tariff-in-range-requires c κs = search needs
 
 returns-5 : tie.Need-returns-5
 returns-5 c =
@@ -115,18 +88,18 @@ read-order-spec =
     tie.close
     (tie.spec
     returns
-    word-at-requires
+    (λ c κs. search needs)
     returns-2
-    word-at-requires-2
-    cast-periods-in-range
-    periods-in-range-requires
+    (λ c κs. search needs)
+    (λ c. search needs)
+    (λ c κs. search needs)
     returns-3
-    cast-length
-    mul-length
-    add-length
-    placed-requires
+    (λ c. search needs)
+    (λ c. search needs)
+    (λ c. search needs)
+    (λ c κs. search needs)
     returns-4
     tariff-in-requires
-    tariff-in-range-requires
+    (λ c κs. search needs)
     returns-5
     returns-6)

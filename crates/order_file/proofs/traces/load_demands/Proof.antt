@@ -60,9 +60,6 @@ number-at-requires c κs = (omega arith, inside _ _ _ _ _ (c .before .loop .inv)
 cast-demands : tie.Need-cast-demands Inv-loop μ-loop
 cast-demands c = omega (arith, c .number-at .ensures .1)
 
-mul-demands : tie.Need-mul-demands Inv-loop μ-loop
-mul-demands c = search needs
-
 slice-write-demands : tie.Need-slice-write-demands Inv-loop μ-loop
 slice-write-demands c =
     let s = c .before .before .before .before .before in
@@ -73,12 +70,6 @@ add-at c =
     let s = c .before .before .before .before .before in
     let h = inside _ _ _ _ _ (c .before .before .loop .inv) (c .before .loop-test .taken) in
     omega (arith, s .good .0 .0)
-
-add-i : tie.Need-add-i Inv-loop μ-loop
-add-i c = search needs
-
-loop-less : tie.Need-loop-less Inv-loop μ-loop
-loop-less c = search needs
 
 loop-again : tie.Need-loop-again Inv-loop μ-loop
 loop-again c = next _ _ _ _ _ (c .before .before .loop .inv) (c .before .loop-test .taken) _ (c .number-at .ensures .0)
@@ -98,11 +89,11 @@ load-demands-spec =
     loop-holds
     number-at-requires
     cast-demands
-    mul-demands
+    (λ c. search needs)
     slice-write-demands
     add-at
-    add-i
-    loop-less
+    (λ c. search needs)
+    (λ c. search needs)
     loop-again
     same-length
     returns)

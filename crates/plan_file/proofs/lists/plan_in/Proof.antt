@@ -64,20 +64,8 @@ records-are bs T k e f = ap₂ (λ (m n : ℕ). recordsOk m (recordsIn n bs)) (s
 returns : tie.Need-returns
 returns c = sym (ap recordedFigures (plan-short _ (lt-leb _ _ (c .if1 .taken))))
 
-word-at-requires : tie.Need-word-at-requires
-word-at-requires c κs = search needs
-
 returns-2 : tie.Need-returns-2
 returns-2 c = sym (ap recordedFigures (plan-foreign _ (long (c .before .before)) (ne-eqb _ _ (λ e. c .if2 .taken (c .before .word-at .ensures ∙ e)))))
-
-word-at-requires-2 : tie.Need-word-at-requires-2
-word-at-requires-2 c κs = search needs
-
-word-at-requires-3 : tie.Need-word-at-requires-3
-word-at-requires-3 c κs = search needs
-
-counts-in-range-requires : tie.Need-counts-in-range-requires
-counts-in-range-requires c κs = search needs
 
 returns-3 : tie.Need-returns-3
 returns-3 c =
@@ -85,18 +73,6 @@ returns-3 c =
     let d = w .before .before in
     let e = counts-are w _ _ (w .before .word-at2 .ensures) (w .word-at3 .ensures) ∙ check-failed (c .before .counts-in-range .ensures) (c .if3 .taken) in
     sym (ap recordedFigures (plan-periods _ (long (d .before .before)) (kind d) e))
-
-cast-length : tie.Need-cast-length
-cast-length c = search needs
-
-mul-length : tie.Need-mul-length
-mul-length c = search needs
-
-add-length : tie.Need-add-length
-add-length c = search needs
-
-placed-requires : tie.Need-placed-requires
-placed-requires c κs = search needs
 
 returns-4 : tie.Need-returns-4
 returns-4 c =
@@ -117,9 +93,6 @@ returns-5 c =
     let k = d .before .before .before .before in
     let e = ap (λ (n : ℕ). leb n costLimit) (sym (c .before .number-at .ensures .0)) ∙ lt-leb _ _ (c .if5 .taken) in
     sym (ap recordedFigures (plan-cost _ (long (k .before .before)) (kind k) (counts d) (places p) e))
-
-cast-records-in-file : tie.Need-cast-records-in-file
-cast-records-in-file c = search needs
 
 records-in-file-requires : tie.Need-records-in-file-requires
 records-in-file-requires c κs =
@@ -156,20 +129,20 @@ plan-in-spec =
     tie.close
     (tie.spec
     returns
-    word-at-requires
+    (λ c κs. search needs)
     returns-2
-    word-at-requires-2
-    word-at-requires-3
-    counts-in-range-requires
+    (λ c κs. search needs)
+    (λ c κs. search needs)
+    (λ c κs. search needs)
     returns-3
-    cast-length
-    mul-length
-    add-length
-    placed-requires
+    (λ c. search needs)
+    (λ c. search needs)
+    (λ c. search needs)
+    (λ c κs. search needs)
     returns-4
     number-at-requires
     returns-5
-    cast-records-in-file
+    (λ c. search needs)
     records-in-file-requires
     returns-6
     returns-7)

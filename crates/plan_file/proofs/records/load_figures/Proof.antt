@@ -73,26 +73,17 @@ record-at-requires c κs =
     let s = c .before .before .before .before .before .before in
     omega (arith, c .before .loop .inv .place, c .loop-test .taken, s .pre .0)
 
-mul-runs : tie.Need-mul-runs Inv-loop μ-loop
-mul-runs c = search needs
-
 slice-write-runs : tie.Need-slice-write-runs Inv-loop μ-loop
 slice-write-runs c =
     let i = c .before in
     let s = i .before .before .before .before .before .before in
     omega (arith, i .loop-test .taken, room s .first, i .before .loop .inv .runs-stored .same)
 
-mul-rates : tie.Need-mul-rates Inv-loop μ-loop
-mul-rates c = search needs
-
 slice-write-rates : tie.Need-slice-write-rates Inv-loop μ-loop
 slice-write-rates c =
     let i = c .before in
     let s = i .before .before .before .before .before .before in
     omega (arith, i .loop-test .taken, room s .second, i .before .loop .inv .rates-stored .same)
-
-mul-depths : tie.Need-mul-depths Inv-loop μ-loop
-mul-depths c = search needs
 
 slice-write-depths : tie.Need-slice-write-depths Inv-loop μ-loop
 slice-write-depths c =
@@ -105,12 +96,6 @@ add-at c =
     let i = c .before in
     let s = i .before .before .before .before .before .before in
     omega (arith, i .before .loop .inv .place, i .loop-test .taken, s .pre .0, s .good .0 .0)
-
-add-i : tie.Need-add-i Inv-loop μ-loop
-add-i c = search needs
-
-loop-less : tie.Need-loop-less Inv-loop μ-loop
-loop-less c = search needs
 
 loop-again : tie.Need-loop-again Inv-loop μ-loop
 loop-again c = let i = c .before in next _ _ _ _ (i .before .loop .inv) (i .loop-test .taken) _ (c .record-at .ensures)
@@ -138,15 +123,15 @@ load-figures-spec =
     μ-loop
     loop-holds
     record-at-requires
-    mul-runs
+    (λ c. search needs)
     slice-write-runs
-    mul-rates
+    (λ c. search needs)
     slice-write-rates
-    mul-depths
+    (λ c. search needs)
     slice-write-depths
     add-at
-    add-i
-    loop-less
+    (λ c. search needs)
+    (λ c. search needs)
     loop-again
     same-length
     same-length-2

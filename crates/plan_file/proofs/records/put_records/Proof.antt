@@ -61,32 +61,20 @@ room s = let a = s .args in rooms (a .buckets) (a .runs .now) (a .rates .now) (a
 loop-holds : tie.Need-loop-holds Inv-loop μ-loop
 loop-holds c = begin _ _ _ _ _ _
 
-mul-t11 : tie.Need-mul-t11 Inv-loop μ-loop
-mul-t11 c = search needs
-
 shared-slice-read-t13 : tie.Need-shared-slice-read-t13 Inv-loop μ-loop
 shared-slice-read-t13 c =
     let i = c .before in
     omega (arith, i .loop-test .taken, room (i .before .before .before .before .before .before) .first)
-
-mul-t14 : tie.Need-mul-t14 Inv-loop μ-loop
-mul-t14 c = search needs
 
 shared-slice-read-t16 : tie.Need-shared-slice-read-t16 Inv-loop μ-loop
 shared-slice-read-t16 c =
     let i = c .before .before in
     omega (arith, i .loop-test .taken, room (i .before .before .before .before .before .before) .second)
 
-mul-t17 : tie.Need-mul-t17 Inv-loop μ-loop
-mul-t17 c = search needs
-
 shared-slice-read-t19 : tie.Need-shared-slice-read-t19 Inv-loop μ-loop
 shared-slice-read-t19 c =
     let i = c .before .before .before in
     omega (arith, i .loop-test .taken, room (i .before .before .before .before .before .before) .third)
-
-slice-aggregate-put-words : tie.Need-slice-aggregate-put-words Inv-loop μ-loop
-slice-aggregate-put-words c = search needs
 
 put-words-requires : tie.Need-put-words-requires Inv-loop μ-loop
 put-words-requires c κs =
@@ -100,12 +88,6 @@ add-next c =
     let i = c .before .before .before .before .before .before .before .before in
     let s = i .before .before .before .before .before .before in
     omega (arith, i .before .loop .inv .place, i .loop-test .taken, s .pre .0, s .good .0 .0)
-
-add-i : tie.Need-add-i Inv-loop μ-loop
-add-i c = search needs
-
-loop-less : tie.Need-loop-less Inv-loop μ-loop
-loop-less c = search needs
 
 loop-again : tie.Need-loop-again Inv-loop μ-loop
 loop-again c =
@@ -127,17 +109,17 @@ put-records-spec =
     Inv-loop
     μ-loop
     loop-holds
-    mul-t11
+    (λ c. search needs)
     shared-slice-read-t13
-    mul-t14
+    (λ c. search needs)
     shared-slice-read-t16
-    mul-t17
+    (λ c. search needs)
     shared-slice-read-t19
-    slice-aggregate-put-words
+    (λ c. search needs)
     put-words-requires
     add-next
-    add-i
-    loop-less
+    (λ c. search needs)
+    (λ c. search needs)
     loop-again
     same-length
     returns)

@@ -67,9 +67,6 @@ sound c m e =
 loop-holds : tie.Need-loop-holds Inv-loop μ-loop
 loop-holds c = none-metered _ _ _ _ _ _ (c .before .before .before .before .pre .1 .1)
 
-mul-end : tie.Need-mul-end Inv-loop μ-loop
-mul-end c = search needs
-
 shared-slice-read-end : tie.Need-shared-slice-read-end Inv-loop μ-loop
 shared-slice-read-end c =
     let i = c .before in
@@ -83,42 +80,21 @@ add-end c =
     let i = c .before in
     omega (arith, inside i, start-of (i .before) .good .0 .0)
 
-mul-t16 : tie.Need-mul-t16 Inv-loop μ-loop
-mul-t16 c = search needs
-
 shared-slice-read-t18 : tie.Need-shared-slice-read-t18 Inv-loop μ-loop
 shared-slice-read-t18 c =
     let i = c .before .before in
     omega (arith, i .loop-test .taken, room (start-of (i .before)) .second)
-
-mul-t19 : tie.Need-mul-t19 Inv-loop μ-loop
-mul-t19 c = search needs
 
 shared-slice-read-t23 : tie.Need-shared-slice-read-t23 Inv-loop μ-loop
 shared-slice-read-t23 c =
     let i = c .before .before .before in
     omega (arith, i .loop-test .taken, room (start-of (i .before)) .third)
 
-mul-meter-run : tie.Need-mul-meter-run Inv-loop μ-loop
-mul-meter-run c = search needs
-
-sub-meter-run : tie.Need-sub-meter-run Inv-loop μ-loop
-sub-meter-run c = search needs
-
 part-meter-run-start : tie.Need-part-meter-run-start Inv-loop μ-loop
 part-meter-run-start c = omega (arith, inside (c .before .before .before))
 
 part-meter-run-end : tie.Need-part-meter-run-end Inv-loop μ-loop
 part-meter-run-end c = inside (c .before .before .before)
-
-meter-run-requires : tie.Need-meter-run-requires Inv-loop μ-loop
-meter-run-requires c κs = search needs
-
-enum-known-m : tie.Need-enum-known-m Inv-loop μ-loop
-enum-known-m c = search needs
-
-enum-known-why : tie.Need-enum-known-why Inv-loop μ-loop
-enum-known-why c = search needs
 
 returns : tie.Need-returns Inv-loop μ-loop
 returns c =
@@ -147,9 +123,6 @@ add-i c =
     let l = start-of (entered r .before) .pre .1 .0 in
     omega (arith, entered r .loop-test .taken, l .few, l .periods .few)
 
-loop-less : tie.Need-loop-less Inv-loop μ-loop
-loop-less c = search needs
-
 loop-again : tie.Need-loop-again Inv-loop μ-loop
 loop-again c =
     let r = c .before .before .before .before in
@@ -166,24 +139,24 @@ meter-runs-spec =
     Inv-loop
     μ-loop
     loop-holds
-    mul-end
+    (λ c. search needs)
     shared-slice-read-end
     cast-end
     add-end
-    mul-t16
+    (λ c. search needs)
     shared-slice-read-t18
-    mul-t19
+    (λ c. search needs)
     shared-slice-read-t23
-    mul-meter-run
-    sub-meter-run
+    (λ c. search needs)
+    (λ c. search needs)
     part-meter-run-start
     part-meter-run-end
-    meter-run-requires
-    enum-known-m
-    enum-known-why
+    (λ c κs. search needs)
+    (λ c. search needs)
+    (λ c. search needs)
     returns
     with-requires
     add-i
-    loop-less
+    (λ c. search needs)
     loop-again
     returns-2)

@@ -10,41 +10,17 @@ Inv-loop trace₀ i₀ trace i = i ≤ 512
 abbrev μ-loop : tie.MeasureT-loop
 μ-loop trace₀ i₀ trace i = 512 - i
 
-loop-holds : tie.Need-loop-holds Inv-loop μ-loop
-loop-holds c = search needs
-
-demand-requires : tie.Need-demand-requires Inv-loop μ-loop
-demand-requires c κs = search needs
-
-mul-trace : tie.Need-mul-trace Inv-loop μ-loop
-mul-trace c = search needs
-
-array-write-trace : tie.Need-array-write-trace Inv-loop μ-loop
-array-write-trace c = search needs
-
-add-i : tie.Need-add-i Inv-loop μ-loop
-add-i c = search needs
-
-loop-less : tie.Need-loop-less Inv-loop μ-loop
-loop-less c = search needs
-
-loop-again : tie.Need-loop-again Inv-loop μ-loop
-loop-again c = search needs
-
-returns : tie.Need-returns Inv-loop μ-loop
-returns c = search needs
-
 pub scenes-of-32-spec : {M : Type 1} → statement M
 scenes-of-32-spec =
     tie.close
     (tie.spec
     Inv-loop
     μ-loop
-    loop-holds
-    demand-requires
-    mul-trace
-    array-write-trace
-    add-i
-    loop-less
-    loop-again
-    returns)
+    (λ c. search needs)
+    (λ c κs. search needs)
+    (λ c. search needs)
+    (λ c. search needs)
+    (λ c. search needs)
+    (λ c. search needs)
+    (λ c. search needs)
+    (λ c. search needs))

@@ -1,9 +1,8 @@
 -- The bytes from the one reached on are left to be stored.
 use Prim.Native.Nat.{_-_}
-use native.Mathlib.Omega.{arith}
 use lib.ListN.{length}
 use borrow.Author.Needs.{needs}
-use Rattle.encoding.specs.StoreLaws.{Copying, none-stored, copied-next, copied-all}
+use Rattle.encoding.specs.StoreLaws.{Copying, none-stored, copied-inside, copied-next, copied-all}
 use Rattle.text.specs.FittedLaws.{too-short, stored-ready}
 use Rattle.text.proofs.fills.fill.Statement.{statement}
 use Rattle.text.proofs.fills.fill.Tie as tie
@@ -13,32 +12,6 @@ Inv-loop ready text₀ i₀ text i = Copying ready text₀ text i
 
 abbrev μ-loop : tie.MeasureT-loop
 μ-loop ready text₀ i₀ text i = length ready - i
-
-returns : tie.Need-returns Inv-loop μ-loop
-returns c = too-short (c .before .args .ready .now) (c .before .args .text .now) (c .if1 .taken)
-
-loop-holds : tie.Need-loop-holds Inv-loop μ-loop
-loop-holds c = none-stored _ 0 _
-
-shared-slice-read-text : tie.Need-shared-slice-read-text Inv-loop μ-loop
-shared-slice-read-text c = search needs
-
-slice-write-text : tie.Need-slice-write-text Inv-loop μ-loop
-slice-write-text c =
-    let i = c .before in
-    omega (arith, i .loop-test .taken, i .before .loop .inv .same, i .before .before .if1 .left)
-
-add-i : tie.Need-add-i Inv-loop μ-loop
-add-i c = search needs
-
-loop-less : tie.Need-loop-less Inv-loop μ-loop
-loop-less c = search needs
-
-loop-again : tie.Need-loop-again Inv-loop μ-loop
-loop-again c = copied-next (c .before .before .loop .inv) (c .before .loop-test .taken)
-
-same-length : tie.Need-same-length Inv-loop μ-loop
-same-length c = c .before .loop .inv .same
 
 returns-2 : tie.Need-returns-2 Inv-loop μ-loop
 returns-2 c =
@@ -51,12 +24,12 @@ fill-spec =
     (tie.spec
     Inv-loop
     μ-loop
-    returns
-    loop-holds
-    shared-slice-read-text
-    slice-write-text
-    add-i
-    loop-less
-    loop-again
-    same-length
+    (λ c. too-short (c .before .args .ready .now) (c .before .args .text .now) (c .if1 .taken))
+    (λ c. none-stored _ 0 _)
+    (λ c. search needs)
+    (λ c. copied-inside (c .before .before .loop .inv) (c .before .before .before .if1 .left) (c .before .loop-test .taken))
+    (λ c. search needs)
+    (λ c. search needs)
+    (λ c. copied-next (c .before .before .loop .inv) (c .before .loop-test .taken))
+    (λ c. c .before .loop .inv .same)
     returns-2)

@@ -1,0 +1,26 @@
+-- Each value is put once.
+use Prim.Native.Nat.{_-_, _≤_}
+use borrow.Author.Needs.{needs}
+use Rattle.order_edges.proofs.damaged.each.Statement.{statement}
+use Rattle.order_edges.proofs.damaged.each.Tie as tie
+
+abbrev Inv-loop : tie.InvT-loop
+Inv-loop at values i₀ i-end i = i ≤ i-end
+
+abbrev μ-loop : tie.MeasureT-loop
+μ-loop at values i₀ i-end i = i-end - i
+
+pub each-spec : {M : Type 1} → statement M
+each-spec =
+    tie.close
+    (tie.spec
+    Inv-loop
+    μ-loop
+    (λ c. search needs)
+    (λ c. search needs)
+    (λ c. search needs)
+    (λ c κs. search needs)
+    (λ c. search needs)
+    (λ c. search needs)
+    (λ c. search needs)
+    (λ c. search needs))
