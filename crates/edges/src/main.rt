@@ -1,8 +1,6 @@
-// Prints what the calls answer at the edges of document 01's ranges, an edge to a line, and on
-// every small case.
+// Prints what the calls answer at the edges of document 01's ranges, an edge to a line.
 mod meters;
 mod runs;
-mod small;
 mod tariffs;
 mod trials;
 
@@ -15,7 +13,6 @@ fn main() {
     trials::edges();
     meters::edges();
     runs::edges();
-    small::cases();
 }
 
 fn bucket_of(rate: u32, depth: u32) -> Bucket {

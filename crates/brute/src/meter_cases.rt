@@ -1,35 +1,25 @@
 // Every small bucket, factor and trace of three periods: trial and meter against a plain run.
-use crate::bucket_of;
 use bucket::TrialAnswer;
 use meter::Meter;
 use meter::MeterAnswer;
+use terms::Bucket;
+use terms::Depth;
 use terms::Factor;
+use terms::Rate;
 
 // Rates 0 to 4, depths 0 to 5, factors 0/2 to 2/2 and demands 0 to 6.
-const CASES: u32 = 30_870;
-
-pub fn cases() {
-    report::words(b"small ");
-    report::agreement(CASES, agreed());
-}
-
-fn agreed() -> u32 {
-    let mut count: u32 = 0;
-    for n in 0..CASES {
-        if agrees(n) {
-            count += 1;
-        }
-    }
-    count
-}
+pub const CASES: u32 = 30_870;
 
 // Whether trial and meter discard what the plain run does in case n.
-fn agrees(n: u32) -> bool {
+pub fn agrees(n: u32) -> bool {
     let rate = n % 5;
     let depth = n / 5 % 6;
     let p = n / 30 % 3;
     let trace: [u16; 3] = [demand(n / 90), demand(n / 630), demand(n / 4410)];
-    let bucket = bucket_of(rate, depth);
+    let bucket = Bucket {
+        rate: Rate(rate),
+        depth: Depth(depth),
+    };
     let factor = Factor { p, q: 2 };
     let wanted = plain_over(rate, depth, start(p, depth), trace);
     let tried = tried_over(bucket::trial(bucket, factor, &trace));

@@ -1,4 +1,5 @@
-// One small case: its trace and tariff, and whether the calls answer as the trials do.
+// The depth call and the single call against trials of every bucket: a small case, its trace and tariff,
+// and whether the calls answer as the trials do.
 use depth::DepthAnswer;
 use depth::depth_at;
 use samples::plain::Best;
@@ -10,6 +11,10 @@ use samples::small::small_tariff;
 use samples::small::tariff_of;
 use single::SingleAnswer;
 use terms::Rate;
+
+// One to four periods with demands 0 to 4, five factors, rate caps 0, 2 and 4, depth caps 0, 3 and
+// 9, four price lists.
+pub const CASES: u32 = 450_000;
 
 // Case n: four demands, how many of them, and a tariff with fee 4.
 pub fn agrees(n: u32) -> bool {

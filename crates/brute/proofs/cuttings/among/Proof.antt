@@ -1,8 +1,8 @@
 -- Each cutting is weighed once; nothing is asked of what is found.
 use Prim.Native.Nat.{_-_, _≤_}
 use borrow.Author.Needs.{needs}
-use Rattle.series_brute.proofs.cuttings.among.Statement.{statement}
-use Rattle.series_brute.proofs.cuttings.among.Tie as tie
+use Rattle.brute.proofs.cuttings.among.Statement.{statement}
+use Rattle.brute.proofs.cuttings.among.Tie as tie
 
 abbrev Inv-loop : tie.InvT-loop
 Inv-loop trace small start end best₀ n₀ best n = start ≤ n

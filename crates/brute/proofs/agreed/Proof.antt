@@ -3,14 +3,14 @@ use Prim.Native.Nat.{_-_, _≤_}
 use native.Mathlib.Omega.{arith}
 use mathlib.Core.Logic.{⊎-elim}
 use borrow.Author.Needs.{needs}
-use Rattle.single_brute.proofs.agreed.Statement.{statement}
-use Rattle.single_brute.proofs.agreed.Tie as tie
+use Rattle.brute.proofs.agreed.Statement.{statement}
+use Rattle.brute.proofs.agreed.Tie as tie
 
 abbrev Inv-loop : tie.InvT-loop
-Inv-loop count₀ n₀ count n = (count ≤ n) × (n ≤ 450000)
+Inv-loop calls cases count₀ n₀ count n = (count ≤ n) × (n ≤ cases)
 
 abbrev μ-loop : tie.MeasureT-loop
-μ-loop count₀ n₀ count n = 450000 - n
+μ-loop calls cases count₀ n₀ count n = cases - n
 
 loop-again : tie.Need-loop-again Inv-loop μ-loop
 loop-again c = ⊎-elim (λ w. omega arith) (λ w. omega arith) (c .if1 .came)

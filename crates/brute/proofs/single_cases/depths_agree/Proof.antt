@@ -1,8 +1,8 @@
 -- Each rate is weighed once.
 use Prim.Native.Nat.{_-_, _≤_}
 use borrow.Author.Needs.{needs}
-use Rattle.single_brute.proofs.cases.depths_agree.Statement.{statement}
-use Rattle.single_brute.proofs.cases.depths_agree.Tie as tie
+use Rattle.brute.proofs.single_cases.depths_agree.Statement.{statement}
+use Rattle.brute.proofs.single_cases.depths_agree.Tie as tie
 
 abbrev Inv-loop : tie.InvT-loop
 Inv-loop trace small tariff rate₀ rate-end rate = rate ≤ rate-end

@@ -1,5 +1,5 @@
-// One small case: its trace and tariff, and whether the call answers and records as the plain
-// search does.
+// The series call against trials of every bucket in every cutting: a small case, its trace and tariff, and
+// whether the call answers and records as the plain search does.
 use crate::cuttings::Choice;
 use crate::cuttings::UNPRICED;
 use crate::cuttings::buckets_of;
@@ -13,6 +13,10 @@ use samples::small::demand;
 use samples::small::small_tariff;
 use samples::small::tariff_of;
 use series::SeriesAnswer;
+
+// One to four periods with demands 0 to 4, five factors, rate caps 0, 2 and 4, depth caps 0, 3 and
+// 9, four price lists, fees 0, 1 and 3.
+pub const CASES: u32 = 421_200;
 
 // Case n: one of the 780 traces of one to four demands, one of the 180 tariffs, and a fee.
 pub fn agrees(n: u32) -> bool {
