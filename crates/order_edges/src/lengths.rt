@@ -1,9 +1,9 @@
 // Orders of 1 and of 512 periods, written, read and spread; and files around the longest.
-use crate::damaged::reading;
 use crate::demands::is_front;
 use crate::demands::print_length;
 use crate::demands::print_list;
 use crate::demands::uneven;
+use damaged_files::reading;
 use order_file::LONGEST_ORDER;
 use order_file::spread;
 use order_file::trace_part;

@@ -3,7 +3,6 @@
 mod damaged;
 mod demands;
 mod lengths;
-mod order;
 mod printed;
 mod spreads;
 mod writing;

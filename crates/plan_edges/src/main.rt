@@ -2,7 +2,6 @@
 // figures and records or the refusal, and whether the rest of what was lent is kept.
 mod damaged;
 mod longest;
-mod plan;
 mod printed;
 mod reading;
 mod writing;

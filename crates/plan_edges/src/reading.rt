@@ -1,18 +1,16 @@
 // Plans read into a list of several lengths.
-use crate::plan::BUCKETS;
-use crate::plan::COST_ABOVE;
-use crate::plan::LAST_DEPTH;
-use crate::plan::PLAN;
-use crate::plan::RUN;
-use crate::plan::print_field;
-use list_calls::read_on;
-use plan_file::PlanAnswer;
+use damaged_files::plan_words::BUCKETS;
+use damaged_files::plan_words::COST_ABOVE;
+use damaged_files::plan_words::LAST_DEPTH;
+use damaged_files::plan_words::PLAN;
+use damaged_files::plan_words::RUN;
+use damaged_files::printed_plan;
+use damaged_files::read_into;
 use samples::file_bytes::WORDS;
 use samples::file_bytes::bytes_of;
 use samples::file_bytes::front;
 use samples::file_bytes::with_word;
 use samples::lists::ENTRIES;
-use samples::lists::filled;
 
 // A list around the number of buckets; then a list that is too short beside something else.
 pub fn edges() {
@@ -31,7 +29,7 @@ pub fn edges() {
 }
 
 fn changed(at: usize, value: u32, entries: usize) {
-    print_field(at, value);
+    printed_plan().print_field(at, value);
     edge(with_word(PLAN, at, value), 56, entries);
 }
 
@@ -45,25 +43,4 @@ fn edge(words: [u32; WORDS], length: usize, entries: usize) {
 pub fn print_entries(entries: usize) {
     report::figure(b"list of", entries as u64);
     report::words(b", ");
-}
-
-// What reading a file gives: the figures and the buckets, or the refusal, and whether every other
-// record of the list is as it was.
-pub fn read_into(file: &[u8], entries: usize) {
-    let lent = read_on(file, filled(), entries);
-    let answer = lent.answer;
-    let list = lent.list;
-    report::words(b"bytes");
-    report::number(file.len() as u64);
-    report::words(b" read:");
-    report::plan(answer);
-    report::list(list, buckets_of(answer));
-}
-
-// The number of buckets; none on a refusal.
-pub fn buckets_of(answer: PlanAnswer) -> usize {
-    match answer {
-        PlanAnswer::Read(plan) => plan.buckets as usize,
-        PlanAnswer::Refused(_) => 0,
-    }
 }

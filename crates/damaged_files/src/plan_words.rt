@@ -33,17 +33,11 @@ pub const LAST_RATE: usize = 12;
 
 pub const LAST_DEPTH: usize = 13;
 
-// What a word is called, its value, and a comma.
-pub fn print_field(at: usize, value: u32) {
+// What a word is called.
+pub fn print_name(at: usize) {
     if LAST_RUN <= at {
         report::words(b"last ");
     }
-    print_name(at);
-    report::number(value as u64);
-    report::words(b", ");
-}
-
-fn print_name(at: usize) {
     match at {
         KIND => report::words(b"kind"),
         PERIODS => report::words(b"T"),

@@ -45,14 +45,8 @@ pub const RATE_CAP: usize = 10;
 
 pub const DEPTH_CAP: usize = 11;
 
-// What a word is called, its value, and a comma.
-pub fn print_field(at: usize, value: u32) {
-    print_name(at);
-    report::number(value as u64);
-    report::words(b", ");
-}
-
-fn print_name(at: usize) {
+// What a word is called.
+pub fn print_name(at: usize) {
     match at {
         KIND => report::words(b"kind"),
         PERIODS => report::words(b"T"),

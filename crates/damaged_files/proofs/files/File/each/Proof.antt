@@ -1,14 +1,14 @@
 -- Each value is put once.
 use Prim.Native.Nat.{_-_, _≤_}
 use borrow.Author.Needs.{needs}
-use Rattle.order_edges.proofs.damaged.each.Statement.{statement}
-use Rattle.order_edges.proofs.damaged.each.Tie as tie
+use Rattle.damaged_files.proofs.files.File.each.Statement.{statement}
+use Rattle.damaged_files.proofs.files.File.each.Tie as tie
 
 abbrev Inv-loop : tie.InvT-loop
-Inv-loop at values i₀ i-end i = i ≤ i-end
+Inv-loop self at values i₀ i-end i = i ≤ i-end
 
 abbrev μ-loop : tie.MeasureT-loop
-μ-loop at values i₀ i-end i = i-end - i
+μ-loop self at values i₀ i-end i = i-end - i
 
 pub each-spec : {M : Type 1} → statement M
 each-spec =
