@@ -82,7 +82,7 @@ pub use order_text::Fault;
 pub use order_text::TextAnswer;
 pub use order_text::order_of_text;
 pub use order_text::refusal_of;
-pub use order_text::word_at;
+pub use order_text::word_around;
 pub use typed_figures::NumberAnswer;
 pub use typed_figures::limit_of;
 pub use typed_figures::number_of;

@@ -4,7 +4,7 @@ use libc::STDERR_FILENO;
 use order_text::Cause;
 use order_text::Fault;
 use order_text::refusal_of;
-use order_text::word_at;
+use order_text::word_around;
 use terms::Refusal;
 use terms::numbers::shorter;
 use terms::refusal_number;
@@ -16,7 +16,7 @@ pub fn say(fault: Fault, text: &[u8]) {
     words(b": ");
     name(fault.figure);
     words(b": ");
-    let word = word_at(text, fault.place);
+    let word = word_around(text, fault.place);
     let cause = fault.cause;
     match cause {
         Cause::Byte => of_word(word, b" is not a decimal number"),

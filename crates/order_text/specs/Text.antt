@@ -175,8 +175,8 @@ wordLength [] = 0
 wordLength (b ∷ bs) = cond (endsFigure b) 0 (1 + wordLength bs)
 
 -- The word around a place of the text, or around its end where the place is behind that.
-abbrev pub wordAt : List ℕ → ℕ → List ℕ
-wordAt text place =
+abbrev pub wordAround : List ℕ → ℕ → List ℕ
+wordAround text place =
     let rest = drop (wordStart text (min place (length text))) text in
     take (wordLength rest) rest
 

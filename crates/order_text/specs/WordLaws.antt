@@ -8,7 +8,7 @@ use mathlib.Core.List.{List, [], _∷_}
 use lib.Dec.{eqb}
 use lib.ListN.{length, take, drop, getD, drop-of-length-le}
 use Rattle.encoding.specs.StoreLaws.{drop-next}
-use Rattle.order_text.specs.Text.{markLength, endsFigure, wordStart, wordLength, wordAt}
+use Rattle.order_text.specs.Text.{markLength, endsFigure, wordStart, wordLength, wordAround}
 
 -- ---- The mark
 
@@ -67,7 +67,7 @@ module _ (text : List ℕ) (i : ℕ) where
 -- ---- The word
 
 pub word-is : (text : List ℕ) (place n start end : ℕ) → n ≡ min place (length text) → start ≡ wordStart text n → end ≡ start + wordLength (drop start text)
-    → take (end - start) (drop start text) ≡ wordAt text place
+    → take (end - start) (drop start text) ≡ wordAround text place
 word-is text place n start end e f g =
     let h : end - start ≡ wordLength (drop start text) = omega (arith, g) in
     ap (λ (k : ℕ). take k (drop start text)) h

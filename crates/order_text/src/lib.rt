@@ -14,4 +14,4 @@ pub use faults::Fault;
 pub use faults::refusal_of;
 pub use orders::TextAnswer;
 pub use orders::order_of_text;
-pub use words::word_at;
+pub use words::word_around;

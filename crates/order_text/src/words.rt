@@ -5,12 +5,12 @@ use terms::numbers::shorter;
 ghost use Prim.Native.Nat.{_+_, _≤_};
 ghost use mathlib.Core.Path.{_≡_};
 ghost use lib.ListN.{drop, length};
-ghost use Rattle.order_text.specs.Text.{wordAt, wordLength, wordStart};
+ghost use Rattle.order_text.specs.Text.{wordAround, wordLength, wordStart};
 
 // The part of the text's own bytes that is the word around a place: back to the mark or to the last
 // byte that ends a figure, and on to the next that does. Behind the text's end stands its last word.
-pub fn word_at(text: &[u8], place: usize) -> &[u8]
-    ensures { λ r. ⌜ now r ≡ wordAt (now (text .entry)) place ⌝ }
+pub fn word_around(text: &[u8], place: usize) -> &[u8]
+    ensures { λ r. ⌜ now r ≡ wordAround (now (text .entry)) place ⌝ }
 {
     let start = word_start(text, shorter(place, text.len()));
     let end = word_end(text, start);

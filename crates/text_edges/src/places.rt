@@ -1,7 +1,7 @@
 // The word around each place of a text, and the places of faults with the words around them.
 use order_text::TextAnswer;
 use order_text::order_of_text;
-use order_text::word_at;
+use order_text::word_around;
 use samples::file_bytes::FILE_ROOM;
 use samples::file_bytes::LENT;
 
@@ -33,7 +33,7 @@ fn lengths(text: &[u8]) {
 }
 
 fn length(text: &[u8], place: usize) {
-    report::number(word_at(text, place).len() as u64);
+    report::number(word_around(text, place).len() as u64);
 }
 
 fn faults() {
@@ -51,7 +51,7 @@ fn fault(text: &[u8]) {
     };
     report::figure(b"fault at", fault.place as u64);
     report::words(b": [");
-    report::words(word_at(text, fault.place));
+    report::words(word_around(text, fault.place));
     report::words(b"]");
     report::end_line();
 }

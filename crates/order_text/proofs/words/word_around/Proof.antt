@@ -4,8 +4,8 @@ use native.Mathlib.Nat.{min-le-right}
 use borrow.Author.Needs.{needs}
 use lib.ListN.{length}
 use Rattle.order_text.specs.WordLaws.{start-inside, word-is}
-use Rattle.order_text.proofs.words.word_at.Statement.{statement}
-use Rattle.order_text.proofs.words.word_at.Tie as tie
+use Rattle.order_text.proofs.words.word_around.Statement.{statement}
+use Rattle.order_text.proofs.words.word_around.Tie as tie
 
 shorter-requires : tie.Need-shorter-requires
 shorter-requires c κs = search needs
@@ -36,8 +36,8 @@ returns c =
     let s = d .before .before .args in
     word-is (s .text .now) (s .place) _ _ _ (d .shorter .ensures) (b .word-start .ensures) (e .word-end .ensures .0)
 
-pub word-at-spec : {M : Type 1} → statement M
-word-at-spec =
+pub word-around-spec : {M : Type 1} → statement M
+word-around-spec =
     tie.close
     (tie.spec
     shorter-requires
