@@ -25,10 +25,12 @@ fn main() {
     compare(Calls::Series, series_cases::CASES);
 }
 
+// A line with the number of cases, and in how many of them the calls agree with what is plain.
 fn compare(calls: Calls, cases: u32) {
     report::agreement(cases, agreed(calls, cases));
 }
 
+// In how many of the cases they agree.
 fn agreed(calls: Calls, cases: u32) -> u32 {
     let mut count: u32 = 0;
     for n in 0..cases {
@@ -39,6 +41,7 @@ fn agreed(calls: Calls, cases: u32) -> u32 {
     count
 }
 
+// Whether they agree in case n.
 fn agrees(calls: Calls, n: u32) -> bool {
     match calls {
         Calls::Meters => meter_cases::agrees(n),

@@ -12,6 +12,7 @@ use samples::file_bytes::front;
 use samples::file_bytes::with_word;
 use samples::lists::ENTRIES;
 
+// Which of the two a file is.
 enum Kind {
     Order,
     Plan,
