@@ -1,5 +1,6 @@
 -- Each return is a case of the definition: the order that is read, and the single bucket for the demands spread.
 use Prim.Native.Nat.{_≤_}
+use native.Mathlib.Omega.{arith}
 use mathlib.Core.Path.{sym, ap, _∙_}
 use lib.ListN.{length}
 use lib.Seq.{length-take-le}
@@ -18,9 +19,6 @@ spread-at x = x .before .before .before
 inside : (x : tie.After-x) → x .x .given .0 .0 .periods ≤ length (spread-at x .spread-order .last .1 .0)
 inside x = demands-inside _ _ _ _ (spread-at x .spread-order .ensures) _ (ap orderSays (x .x .given .1))
 
-array-share-prefix-demands : tie.Need-array-share-prefix-demands
-array-share-prefix-demands c = inside (c .before .before .before)
-
 pub single-for-spec : {M : Type 1} → statement M
 single-for-spec =
     tie.close
@@ -31,8 +29,8 @@ single-for-spec =
     (λ c. search needs)
     (λ c. then-refused _ _ (order-unread _ _ _ _ (c .before .before .before .before .spread-order .ensures) (long 512) _ (ap orderSays (c .before .why .given .1))))
     (λ c. search needs)
-    array-share-prefix-demands
-    (λ c. sym (length-take-le _ _ (inside (c .before .before .before .before))))
+    (λ c. omega (arith, inside (c .before .before .before)))
+    (λ c. sym (length-take-le _ _ (omega (arith, inside (c .before .before .before .before)))))
     (λ c κs. search needs)
     (λ c.
     let x = c .before .before .before .before .before in
