@@ -1,6 +1,5 @@
--- Bucket records in three number lists, and their laws. Of the calls that are offered only
--- `metqoraz_plan`, which fills number lists, cites them.
-pub mod Lists
-pub mod ListLaws
+-- Bucket records in an array, and their laws.
+pub mod Held
+pub mod HeldLaws
 pub mod FrontLaws
 pub mod PartLaws

@@ -1,45 +1,36 @@
--- The records of three lists gone through in order beside a trace that their runs make up: which are left, where a
--- run's part of the trace begins, and that it is inside the trace.
+-- The records of a cutting gone through in order beside a trace that their runs make up: which are left, where a run's
+-- part of the trace begins, and that it is inside the trace.
 -- Assumes nothing.
 use Prim.Native.Nat.{ℕ, _+_, _-_, _≤_, _<_}
 use native.Mathlib.Omega.{arith}
 use native.Mathlib.Nat.{zero-add}
+use native.Mathlib.Numerals.{add-one}
 use mathlib.Core.Path.{_≡_, ap, _∙_}
-use mathlib.Core.List.{List, [], _∷_}
-use lib.ListN.{length, take, drop}
+use mathlib.Core.List.{List, _∷_}
+use lib.ListN.{length, take, drop, getD}
+use lib.Seq.{drop-cons}
 use Rattle.terms.specs.Records.{Cutting, runLength, total}
-use Rattle.encoding.specs.Number.{itemsAt}
-use Rattle.encoding.specs.StoreLaws.{items-next, items-none}
-use Rattle.record_list.specs.Lists.{listed, recordsOf}
+use Rattle.record_list.specs.Held.{noRecord}
 
-module _ (runs rates depths : List ℕ) (k : ℕ) where
-  -- The records from the i-th on.
-  abbrev pub rest : ℕ → Cutting
-  rest i = itemsAt (listed runs rates depths) 1 (k - i) i
-
-  pub rest-all : rest 0 ≡ recordsOf k runs rates depths
-  rest-all = let z : k - 0 ≡ k = omega arith in ap (λ (n : ℕ). itemsAt (listed runs rates depths) 1 n 0) z
-
-  pub rest-next : (i : ℕ) → i < k → rest i ≡ listed runs rates depths i ∷ rest (i + 1)
-  rest-next i l = items-next (listed runs rates depths) 1 k i i l
-
-  pub rest-none : (i : ℕ) → k ≤ i → rest i ≡ []
-  rest-none i l = items-none (listed runs rates depths) 1 k i i l
+module _ (xs : Cutting) where
+  -- The record that is next, and those after it.
+  pub rest-next : (i : ℕ) → i < length xs → drop i xs ≡ getD xs i noRecord ∷ drop (i + 1) xs
+  rest-next i l = rw (add-one, drop-cons xs i noRecord)
 
   module _ (ds : List ℕ) where
     -- The runs from the i-th on make up the trace from `start` on.
     abbrev pub Begins : ℕ → ℕ → Type 0
-    Begins start i = start + total runLength (rest i) ≡ length ds
+    Begins start i = start + total runLength (drop i xs) ≡ length ds
 
-    pub first-begins : total runLength (recordsOf k runs rates depths) ≡ length ds → Begins 0 0
-    first-begins e = zero-add _ ∙ ap (total runLength) rest-all ∙ e
+    pub first-begins : total runLength xs ≡ length ds → Begins 0 0
+    first-begins e = zero-add _ ∙ e
 
-    module _ (start i : ℕ) (b : Begins start i) (l : i < k) where
-      pub run-inside : start + runLength (listed runs rates depths i) ≤ length ds
+    module _ (start i : ℕ) (b : Begins start i) (l : i < length xs) where
+      pub run-inside : start + runLength (getD xs i noRecord) ≤ length ds
       unfolding total
       run-inside = omega (arith, b, ap (total runLength) (rest-next i l))
 
-      pub next-begins : Begins (start + runLength (listed runs rates depths i)) (i + 1)
+      pub next-begins : Begins (start + runLength (getD xs i noRecord)) (i + 1)
       unfolding total
       next-begins = omega (arith, b, ap (total runLength) (rest-next i l))
 

@@ -1,2 +1,3 @@
-// Bucket records in a lent slice of structs, stored from three number lists and loaded into them.
-pub mod copies;
+// Bucket records: in an array by value, as a plan travels below the offered calls, and in the lent
+// slice of structs that these take.
+pub mod arrays;
