@@ -92,6 +92,13 @@ def statements(f):
     return [statement(s) for s in flat(f.body)]
 
 
+def calls(body):
+    """The calls of any body, in order."""
+    if not isinstance(body, list):
+        return []
+    return [statement(body)] if body[0] == 'call' else [s for part in body for s in calls(part)]
+
+
 def reads(s):
     """The locals that a statement reads."""
     if s == RETURN:
