@@ -16,9 +16,9 @@ use Rattle.terms.specs.Limits.{traceLimit}
 use Rattle.terms.specs.Records.{Cutting}
 use Rattle.encoding.specs.Number.{numberAt}
 use Rattle.encoding.specs.NumberLaws.{length-items}
-use Rattle.record_list.specs.ListLaws.{counted-on, lists-hold}
-use Rattle.record_list.specs.Lists.{RecordLists, Filled, recordsOf, counted}
-use Rattle.plan_file.specs.declared.plans.PlanFigures.{PlanFigures}
+use Rattle.record_list.specs.Held.{counted, held}
+use Rattle.record_list.specs.HeldLaws.{counted-on, held-records}
+use Rattle.plan_file.specs.declared.answers.PlanFigures.{PlanFigures}
 use Rattle.plan_file.specs.Plan.{Recorded, bucketsOffset, bucketsOf, countsOk, fitting, planFile, planIn, readPlan, recordedFigures}
 use Rattle.plan_file.specs.PlanRules.{counts-range, read-rules, write-periods}
 
@@ -73,14 +73,12 @@ module _ (room : ℕ) (x : PlanFigures) (list : Cutting) where
           let c = counts-range (x .periods) k e in
           ap (planFile (length list) room x) (h (leb-true _ _ f) (omega (arith, c .few, c .periods .few)))
 
-  pub loaded-records : (old new : RecordLists) (n : ℕ) → n ≡ loadCount k (length list) → Filled (figures (take n list)) old new
-      → planFile (length list) room x (recordsOf k (new .runs) (new .rates) (new .depths)) ≡ planFile (length list) room x (take k list)
-  loaded-records old new n e f = loaded-file (recordsOf k (new .runs) (new .rates) (new .depths)) all
+  pub loaded-records : (records : Cutting) (n : ℕ) → n ≡ loadCount k (length list) → records ≡ held (figures (take n list))
+      → planFile (length list) room x (take k records) ≡ planFile (length list) room x (take k list)
+  loaded-records records n e f = loaded-file (take k records) all
     where
-      all : k ≤ length list → k ≤ traceLimit → recordsOf k (new .runs) (new .rates) (new .depths) ≡ take k list
+      all : k ≤ length list → k ≤ traceLimit → take k records ≡ take k list
       all l m =
           let i : n ≡ k = e ∙ omega (arith, l, m) in
-          let j : length (take n list) ≡ k = length-take-le n list (omega (arith, i, l)) ∙ i in
-          ap (λ (z : ℕ). recordsOf z (new .runs) (new .rates) (new .depths)) (sym j)
-          ∙ lists-hold (take n list) old new f
-          ∙ ap (λ (z : ℕ). take z list) i
+          let j : k ≡ length (take n list) = sym (length-take-le n list (omega (arith, i, l)) ∙ i) in
+          held-records (figures (take n list)) records (take n list) k f refl j ∙ ap (λ (z : ℕ). take z list) i

@@ -12,9 +12,9 @@ use Rattle.terms.specs.Refusals.{numberOf}
 use Rattle.terms.specs.Limits.{costLimit, traceLimit}
 use Rattle.terms.specs.Ranges.{periodsOk, recordOk}
 use Rattle.terms.specs.Records.{Cutting, recordOf, runLength, runRate, runDepth, total}
-use Rattle.plan_file.specs.declared.plans.PlanFigures.{PlanFigures}
-use Rattle.plan_file.specs.declared.plans.PlanAnswer.{PlanAnswer}
-use Rattle.plan_file.specs.declared.plans.PlanAnswer.the-variants.{Read, Refused}
+use Rattle.plan_file.specs.declared.answers.PlanFigures.{PlanFigures}
+use Rattle.plan_file.specs.declared.answers.PlanAnswer.{PlanAnswer}
+use Rattle.plan_file.specs.declared.answers.PlanAnswer.the-variants.{Read, Refused}
 use Rattle.encoding.specs.Number.{bytesOf, numberAt, bytesOfAll, itemsAt}
 use Rattle.encoding.specs.Header.{placedAs}
 

@@ -13,11 +13,11 @@ use Rattle.terms.specs.declared.BucketRecord.{BucketRecord}
 use Rattle.terms.specs.Answer.{Answer, figures, refused}
 use Rattle.terms.specs.Limits.{costLimit}
 use Rattle.terms.specs.Records.{Cutting, Each, recordOf, runLength, runRate, runDepth, total}
-use Rattle.plan_file.specs.declared.plans.PlanFigures.{PlanFigures}
+use Rattle.plan_file.specs.declared.answers.PlanFigures.{PlanFigures}
 use Rattle.encoding.specs.Number.{bytesOf, numberAt, bytesOfAll, itemsAt}
 use Rattle.encoding.specs.NumberLaws.{Within, Bytes, numbers-written, numbers-read, each-at, length-bytes, length-all, length-items, number-written, number-read, items-written, items-read}
 use Rattle.encoding.specs.Header.{Placed}
-use Rattle.record_list.specs.ListLaws.{noRecord}
+use Rattle.record_list.specs.Held.{noRecord}
 use Rattle.plan_file.specs.RecordLaws.{RecordsRange, records-ok}
 use Rattle.plan_file.specs.Plan.{Recorded, figuresIn, costOffset, bucketsOffset, planLength, planWords, planBytes, recordBytes, recordAt, recordsIn, planIn, readPlan, planFile, writePlan, VeryPlan}
 use Rattle.plan_file.specs.PlanRules.{PlanRules, CountsRange, counts-ok, bucketsIn, recordedIn, rules-read, read-rules, read-fits, read-holds, write-figures, write-rules, length-head, length-record, length-plan}

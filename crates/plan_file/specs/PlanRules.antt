@@ -4,11 +4,10 @@ use Prim.Native.Nat.{ℕ, _+_, _≤_}
 use native.Mathlib.Omega.{arith}
 use mathlib.Core.Path.{_≡_, refl, sym, ap, ap₂, _∙_}
 use mathlib.Core.Bool.{Bool, true, false}
-use mathlib.Core.List.{List, [], _∷_, _++_, map}
+use mathlib.Core.List.{List, [], _∷_, _++_}
 use borrow.Author.Tests.{leb-true, le-leb, eqb-true, eq-eqb}
 use lib.Dec.{leb, eqb}
-use lib.ListN.{length, length-map, length-append}
-use lib.Seq.{sets}
+use lib.ListN.{length, length-append}
 use Rattle.terms.specs.declared.BucketRecord.{BucketRecord}
 use Rattle.terms.specs.Answer.{Answer, figures, refused, weigh}
 use Rattle.terms.specs.AnswerLaws.{same-figures, weigh-figures, on-figures, then-figures, then-refused, then-found}
@@ -18,14 +17,12 @@ use Rattle.terms.specs.Ranges.{periodsOk}
 use Rattle.terms.specs.Records.{Cutting, runLength, runRate, runDepth}
 use Rattle.terms.specs.RangeRules.{PeriodsRange}
 use Rattle.terms.specs.RangeLaws.{periods-range, periods-ok}
-use Rattle.plan_file.specs.declared.plans.PlanFigures.{PlanFigures}
+use Rattle.plan_file.specs.declared.answers.PlanFigures.{PlanFigures}
 use Rattle.encoding.specs.Number.{bytesOf, numberAt, bytesOfAll}
 use Rattle.encoding.specs.NumberLaws.{length-items, length-bytes, length-all}
 use Rattle.encoding.specs.Header.{Placed, placedAs}
 use Rattle.encoding.specs.HeaderLaws.{placed-range, placed-ok}
-use Rattle.encoding.specs.StoreLaws.{sets-front}
-use Rattle.record_list.specs.ListLaws.{lists-kept, rooms}
-use Rattle.record_list.specs.Lists.{RecordLists, Filled, recorded, roomOf}
+use Rattle.record_list.specs.Held.{blank, held}
 use Rattle.plan_file.specs.RecordLaws.{RecordsRange, records-range, records-ok}
 use Rattle.plan_file.specs.Plan.{Recorded, figuresIn, planKind, costOffset, bucketsOffset, planLength, planBytes, countsOk, recordsOk, recordsIn, planIn, fitting, readPlan, recordedFigures, bucketsOf, planWords, recordBytes, planFile}
 
@@ -136,7 +133,7 @@ figures-are bs T k cost e f g =
     let l : k ≡ length (bucketsIn bs) = f ∙ sym (length-items _ 12 (numberAt 4 bs 8) bucketsOffset) in
     rw (e, g) (ap (λ (n : ℕ). figures (record { periods = numberAt 4 bs 4; buckets = n; cost = numberAt 8 bs costOffset })) l)
 
--- ---- Reading into lists
+-- ---- Reading into an array
 
 -- A plan with the figures y is read.
 pub record IsPlan (bs : List ℕ) (y : PlanFigures) : Type 0 where
@@ -169,51 +166,32 @@ read-holds room bs x e =
 pub read-fits : (room : ℕ) (bs : List ℕ) (x : Recorded) → planIn bs ≡ figures x → length (x .buckets) ≤ room → readPlan room bs ≡ figures x
 read-fits room bs x e l = sym (then-figures (planIn bs) (fitting room) e) ∙ ap (λ (ok : Bool). weigh ok 6 (figures x)) (le-leb _ _ l)
 
-module _ (bs : List ℕ) (room : ℕ) (old : RecordLists) where
-  -- What is answered, and what the lists hold.
-  abbrev pub Result : Answer PlanFigures → RecordLists → Type 0
-  Result r new = (r ≡ recordedFigures (readPlan room bs)) × Filled (bucketsOf (readPlan room bs)) old new
+module _ (bs : List ℕ) (room : ℕ) where
+  -- What is answered, and what the array holds.
+  abbrev pub Result : Answer PlanFigures → Cutting → Type 0
+  Result r records = (r ≡ recordedFigures (readPlan room bs)) × (records ≡ held (bucketsOf (readPlan room bs)))
 
-  pub read-refused : (r : Answer PlanFigures) (n : ℕ) → r ≡ recordedFigures (planIn bs) → planIn bs ≡ refused n → Result r old
-  read-refused r n e f =
-      let g : readPlan room bs ≡ refused n = sym (then-refused (planIn bs) (fitting room) f) in
-      (e ∙ ap recordedFigures (f ∙ sym g), lists-kept _ old n (ap bucketsOf g))
+  result : (a : Answer Recorded) → readPlan room bs ≡ a → (r : Answer PlanFigures) (records : Cutting) → r ≡ recordedFigures a → records ≡ held (bucketsOf a) → Result r records
+  result a e r records f g = (f ∙ ap recordedFigures (sym e), g ∙ ap (λ (b : Answer Recorded). held (bucketsOf b)) (sym e))
 
-  module _ (y : PlanFigures) (p : IsPlan bs y) where
+  pub read-refused : (r : Answer PlanFigures) (n : ℕ) (records : Cutting) → r ≡ recordedFigures (planIn bs) → planIn bs ≡ refused n → records ≡ blank → Result r records
+  read-refused r n records e f = result (refused n) (sym (then-refused (planIn bs) (fitting room) f)) r records (e ∙ ap recordedFigures f)
+
+  module _ (y : PlanFigures) (p : IsPlan bs y) (records : Cutting) where
     count : length (bucketsIn bs) ≡ y .buckets
     count = length-items _ 12 (numberAt 4 bs 8) bucketsOffset ∙ p .is-count
 
-    pub read-full : leb (y .buckets) room ≡ false → Result (refused 6) old
+    pub read-full : leb (y .buckets) room ≡ false → records ≡ blank → Result (refused 6) records
     read-full h =
         let k : leb (length (bucketsIn bs)) room ≡ false = ap (λ (n : ℕ). leb n room) count ∙ h in
-        let g : readPlan room bs ≡ refused 6 = sym (then-figures (planIn bs) (fitting room) (p .is-read)) ∙ ap (λ (ok : Bool). weigh ok 6 (figures (recordedIn bs))) k in
-        (sym (ap recordedFigures g), lists-kept _ old 6 (ap bucketsOf g))
+        let g = sym (then-figures (planIn bs) (fitting room) (p .is-read)) ∙ ap (λ (ok : Bool). weigh ok 6 (figures (recordedIn bs))) k in
+        result (refused 6) g (refused 6) records refl
 
-    module _ (h : leb (y .buckets) room ≡ true) where
-      -- one figure of each record, stored at the front
-      abbrev stored : (BucketRecord → ℕ) → List ℕ → List ℕ
-      stored figure xs = sets xs 0 (map figure (recordsIn (y .buckets) bs))
-
-      fits : readPlan room bs ≡ figures (recordedIn bs)
-      fits = read-fits room bs (recordedIn bs) (p .is-read) (omega (arith, count, leb-true (y .buckets) room h))
-
-      loaded : (figure : BucketRecord → ℕ) (xs ys : List ℕ) → y .buckets ≤ length xs → ys ≡ stored figure xs
-          → ys ≡ recorded figure (bucketsOf (readPlan room bs)) xs
-      loaded figure xs ys l e =
-          e
-          ∙ ap (λ (n : ℕ). sets xs 0 (map figure (recordsIn n bs))) (sym (p .is-count))
-          ∙ sets-front (map figure (bucketsIn bs)) xs (omega (arith, length-map (bucketsIn bs) figure, count))
-          ∙ ap (λ (a : Answer Recorded). recorded figure (bucketsOf a) xs) (sym fits)
-
-      pub read-loaded : (new : RecordLists) → y .buckets ≤ roomOf (old .runs) (old .rates) (old .depths) → figures y ≡ recordedFigures (planIn bs)
-          → (new .runs ≡ stored runLength (old .runs)) × ((new .rates ≡ stored runRate (old .rates)) × (new .depths ≡ stored runDepth (old .depths)))
-          → Result (figures y) new
-      read-loaded new m e s =
-          let l = rooms (y .buckets) (old .runs) (old .rates) (old .depths) m in
-          let runs-are = loaded runLength (old .runs) (new .runs) (l .first) (s .0) in
-          let rates-are = loaded runRate (old .rates) (new .rates) (l .second) (s .1 .0) in
-          let depths-are = loaded runDepth (old .depths) (new .depths) (l .third) (s .1 .1) in
-          (e ∙ ap recordedFigures (p .is-read ∙ sym fits), (runs-are, (rates-are, depths-are)))
+    pub read-loaded : leb (y .buckets) room ≡ true → figures y ≡ recordedFigures (planIn bs) → records ≡ held (figures (recordsIn (y .buckets) bs)) → Result (figures y) records
+    read-loaded h e f =
+        let g = read-fits room bs (recordedIn bs) (p .is-read) (omega (arith, count, leb-true (y .buckets) room h)) in
+        result (figures (recordedIn bs)) g (figures y) records (e ∙ ap recordedFigures (p .is-read))
+        (f ∙ ap (λ (n : ℕ). held (figures (recordsIn n bs))) (sym (p .is-count)))
 
 -- ---- Writing, rule by rule
 

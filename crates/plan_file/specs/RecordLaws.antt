@@ -1,14 +1,16 @@
 -- Bucket records in their ranges, and weighed one by one.
 -- Assumes nothing.
-use Prim.Native.Nat.{ℕ, zero, suc, _+_, _-_, _*_, _≤_, _<_}
+use Prim.Native.Nat.{ℕ, zero, suc, _+_, _*_, _≤_, _<_}
 use native.Mathlib.Omega.{arith}
 use native.Mathlib.Nat.{add-zero, zero-add}
+use native.Mathlib.Numerals.{add-one}
 use mathlib.Core.Path.{_≡_, refl, sym, ap, ap₂, _∙_}
 use mathlib.Core.Bool.{Bool, true, _&&_, and-true, and-assoc}
 use mathlib.Core.List.{[], _∷_}
 use borrow.Author.Tests.{eqb-true, eq-eqb}
 use lib.Dec.{eqb}
-use lib.ListN.{length, getD}
+use lib.ListN.{length, take, drop, getD, length-take, drop-of-length-le}
+use lib.Seq.{slice-cons}
 use Rattle.terms.specs.declared.BucketRecord.{BucketRecord}
 use Rattle.terms.specs.Bools.{and-both, both-and}
 use Rattle.terms.specs.Ranges.{recordOk}
@@ -16,9 +18,7 @@ use Rattle.terms.specs.RangeRules.{RecordRange}
 use Rattle.terms.specs.RangeLaws.{record-range, record-ok}
 use Rattle.terms.specs.Records.{Cutting, runLength, total}
 use Rattle.plan_file.specs.declared.records.Tally.{Tally}
-use Rattle.encoding.specs.Number.{itemsAt}
-use Rattle.encoding.specs.StoreLaws.{items-next, items-none}
-use Rattle.record_list.specs.ListLaws.{noRecord}
+use Rattle.record_list.specs.Held.{noRecord}
 use Rattle.plan_file.specs.Plan.{allOk, recordsOk}
 
 -- The greatest number of 4 bytes.
@@ -53,48 +53,42 @@ records-ok T xs r = both-and (all-ok xs (r .each)) (eq-eqb _ _ (r .sum))
 abbrev pub pushed : Tally → BucketRecord → Tally
 pushed t x = record { ok = t .ok && recordOk x; sum = t .sum + runLength x }
 
--- The k records that `read` gives, `width` apart from `start` on.
-module _ (read : ℕ → BucketRecord) (width k start : ℕ) where
-  abbrev all : Cutting
-  all = itemsAt read width k start
+-- The first k records from the i-th on: that and those after it, or none.
+pub first-next : (k : ℕ) (xs : Cutting) → k ≤ length xs → (i : ℕ) → i < k → drop i (take k xs) ≡ getD xs i noRecord ∷ drop (i + 1) (take k xs)
+first-next k xs l i h = rw (add-one, slice-cons i k xs noRecord)
 
-  -- i of them are weighed in the tally; those from `at` on are left.
-  pub record Weighed (t : Tally) (at i : ℕ) : Type 0 where
-    pub ranges : t .ok && allOk (itemsAt read width (k - i) at) ≡ allOk all
-    pub lengths : t .sum + total runLength (itemsAt read width (k - i) at) ≡ total runLength all
+pub first-none : (k : ℕ) (xs : Cutting) (i : ℕ) → k ≤ i → drop i (take k xs) ≡ []
+first-none k xs i h = let l : length (take k xs) ≤ i = omega (arith, length-take k xs) in drop-of-length-le (take k xs) l
+
+module _ (all : Cutting) where
+  -- i of the records are weighed in the tally; `rest` is left.
+  pub record Weighed (t : Tally) (i : ℕ) (rest : Cutting) : Type 0 where
+    pub ranges : t .ok && allOk rest ≡ allOk all
+    pub lengths : t .sum + total runLength rest ≡ total runLength all
     pub small : t .sum ≤ wordLimit * i
 
-  pub none-weighed : Weighed (record { ok = true; sum = 0 }) start 0
-  none-weighed =
-      let e : k - 0 ≡ k = omega arith in
-      record {
-        ranges = ap (λ (n : ℕ). allOk (itemsAt read width n start)) e;
-        lengths = zero-add _ ∙ ap (λ (n : ℕ). total runLength (itemsAt read width n start)) e;
-        small = omega arith;
-      }
+  pub none-weighed : Weighed (record { ok = true; sum = 0 }) 0 all
+  none-weighed = record { ranges = refl; lengths = zero-add _; small = omega arith }
 
-  module _ {t : Tally} {at i : ℕ} (w : Weighed t at i) where
-    pub one-weighed : i < k → (x : BucketRecord) (u : Tally) → x ≡ read at → u ≡ pushed t x → u .sum ≤ t .sum + wordLimit → Weighed u (at + width) (i + 1)
+  module _ {t : Tally} {i : ℕ} {rest : Cutting} (w : Weighed t i rest) where
+    pub one-weighed : (x : BucketRecord) (xs : Cutting) → rest ≡ x ∷ xs → (u : Tally) → u ≡ pushed t x → u .sum ≤ t .sum + wordLimit → Weighed u (i + 1) xs
     unfolding allOk total
-    one-weighed l x u e f m =
-        let rest = itemsAt read width (k - (i + 1)) (at + width) in
-        let n : x ∷ rest ≡ itemsAt read width (k - i) at = ap (λ (y : BucketRecord). y ∷ rest) e ∙ sym (items-next read width k i at l) in
-        let s : t .sum + (runLength x + total runLength rest) ≡ total runLength all = ap (λ (ys : Cutting). t .sum + total runLength ys) n ∙ w .lengths in
+    one-weighed x xs e u f m =
+        let s : t .sum + (runLength x + total runLength xs) ≡ total runLength all = ap (λ (ys : Cutting). t .sum + total runLength ys) (sym e) ∙ w .lengths in
         let v : u .sum ≡ t .sum + runLength x = ap (λ (y : Tally). y .sum) f in
         record {
           ranges =
-              ap (λ (y : Tally). y .ok && allOk rest) f
-              ∙ and-assoc (t .ok) (recordOk x) (allOk rest)
-              ∙ ap (λ (ys : Cutting). t .ok && allOk ys) n
+              ap (λ (y : Tally). y .ok && allOk xs) f
+              ∙ and-assoc (t .ok) (recordOk x) (allOk xs)
+              ∙ ap (λ (ys : Cutting). t .ok && allOk ys) (sym e)
               ∙ w .ranges;
           lengths = omega arith;
           small = omega (arith, w .small);
         }
 
-    pub all-weighed : k ≤ i → (T : ℕ) → t .ok && eqb (t .sum) T ≡ recordsOk T all
+    pub all-weighed : rest ≡ [] → (T : ℕ) → t .ok && eqb (t .sum) T ≡ recordsOk T all
     unfolding allOk total
-    all-weighed l T =
-        let n : [] ≡ itemsAt read width (k - i) at = sym (items-none read width k i at l) in
-        let o : t .ok ≡ allOk all = sym (and-true (t .ok)) ∙ ap (λ (ys : Cutting). t .ok && allOk ys) n ∙ w .ranges in
-        let s : t .sum ≡ total runLength all = sym (add-zero (t .sum)) ∙ ap (λ (ys : Cutting). t .sum + total runLength ys) n ∙ w .lengths in
+    all-weighed e T =
+        let o : t .ok ≡ allOk all = sym (and-true (t .ok)) ∙ ap (λ (ys : Cutting). t .ok && allOk ys) (sym e) ∙ w .ranges in
+        let s : t .sum ≡ total runLength all = sym (add-zero (t .sum)) ∙ ap (λ (ys : Cutting). t .sum + total runLength ys) (sym e) ∙ w .lengths in
         ap₂ (λ (b : Bool) (n : ℕ). b && eqb n T) o s

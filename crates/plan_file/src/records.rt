@@ -1,25 +1,27 @@
-// The bucket records of a plan, in a file and in lists. Public only for this crate's calls, which
+// The bucket records of a plan, in a file and in an array. Public only for this crate's calls, which
 // show what is required.
-use crate::lists::BUCKETS_OFFSET;
-use crate::lists::RECORD_BYTES;
+use crate::layout::BUCKETS_OFFSET;
+use crate::layout::RECORD_BYTES;
 use encoding::numbers::put_words;
 use encoding::numbers::word_at;
-use record_list::copies::listed_record;
+use record_list::arrays::blank_records;
 use terms::Bucket;
 use terms::BucketRecord;
 use terms::Depth;
 use terms::Rate;
+use terms::limits::TRACE_LIMIT;
 use terms::record_in_range;
 ghost use Prim.Native.Nat.{_+_, _*_, _≤_};
 ghost use mathlib.Core.Path.{_≡_};
 ghost use mathlib.Core.Bool.{_&&_};
-ghost use mathlib.Core.List.{map};
 ghost use lib.Dec.{eqb};
-ghost use lib.ListN.{length};
+ghost use lib.ListN.{length, take};
 ghost use lib.Seq.{sets};
-ghost use Rattle.terms.specs.Records.{recordOf, runDepth, runLength, runRate};
+ghost use Rattle.terms.specs.Answer.{figures};
+ghost use Rattle.terms.specs.Limits.{traceLimit};
+ghost use Rattle.terms.specs.Records.{recordOf};
 ghost use Rattle.encoding.specs.Number.{bytesOfAll};
-ghost use Rattle.record_list.specs.Lists.{recordsOf, roomOf};
+ghost use Rattle.record_list.specs.Held.{held};
 ghost use Rattle.plan_file.specs.Plan.{planLength, recordAt, recordBytes, recordsIn, recordsOk};
 ghost use Rattle.plan_file.specs.RecordLaws.{pushed, wordLimit};
 
@@ -54,7 +56,7 @@ pub struct Tally {
 
 impl Tally {
     fn push(self, x: BucketRecord) -> Self
-        requires { ⌜ self .sum ≤ wordLimit * 512 ⌝ }
+        requires { ⌜ self .sum ≤ wordLimit * traceLimit ⌝ }
         ensures { λ r. ⌜ r ≡ pushed self x ⌝ }
         ensures { λ r. ⌜ r .sum ≤ self .sum + wordLimit ⌝ }
     {
@@ -75,7 +77,7 @@ impl Tally {
 // Whether each record of a file is in its range and the run lengths sum to T.
 pub fn records_in_file(bytes: &[u8], periods: u32, buckets: usize) -> bool
     requires { ⌜ planLength buckets ≤ length (now bytes) ⌝ }
-    requires { ⌜ buckets ≤ 512 ⌝ }
+    requires { ⌜ buckets ≤ traceLimit ⌝ }
     ensures { λ r. ⌜ r ≡ recordsOk periods (recordsIn buckets (now (bytes .entry))) ⌝ }
 {
     let mut tally = Tally { ok: true, sum: 0 };
@@ -90,71 +92,55 @@ pub fn records_in_file(bytes: &[u8], periods: u32, buckets: usize) -> bool
     tally.whole(periods)
 }
 
-// The same of the first records of three lists.
-pub fn records_in_lists(
-    periods: u32,
-    buckets: usize,
-    runs: &[u32],
-    rates: &[u32],
-    depths: &[u32],
-) -> bool
-    requires { ⌜ buckets ≤ roomOf (now runs) (now rates) (now depths) ⌝ }
-    requires { ⌜ buckets ≤ 512 ⌝ }
-    ensures { λ r. ⌜ r ≡ recordsOk periods (recordsOf buckets (now (runs .entry)) (now (rates .entry)) (now (depths .entry))) ⌝ }
+// The same of the first records of an array.
+pub fn records_in_range(periods: u32, buckets: usize, records: [BucketRecord; TRACE_LIMIT]) -> bool
+    requires { ⌜ buckets ≤ traceLimit ⌝ }
+    ensures { λ r. ⌜ r ≡ recordsOk periods (take buckets records) ⌝ }
 {
     let mut tally = Tally { ok: true, sum: 0 };
     let mut i = 0;
     while i < buckets {
-        let x = listed_record(runs, rates, depths, i);
+        let x = records[i];
         tally = tally.push(x);
         i += 1;
     }
     tally.whole(periods)
 }
 
-// Stores the figures of the records of a file from the front of three lists on.
-pub fn load_figures(
-    bytes: &[u8],
-    buckets: usize,
-    runs: &mut [u32],
-    rates: &mut [u32],
-    depths: &mut [u32],
-)
+// The records of a file, from the front of an array on.
+pub fn load_records(bytes: &[u8], buckets: usize) -> [BucketRecord; TRACE_LIMIT]
     requires { ⌜ planLength buckets ≤ length (now bytes) ⌝ }
-    requires { ⌜ buckets ≤ roomOf (now runs) (now rates) (now depths) ⌝ }
-    ensures { λ _. ⌜ now (runs .exit) ≡ sets (now (runs .entry)) 0 (map runLength (recordsIn buckets (now (bytes .entry)))) ⌝ }
-    ensures { λ _. ⌜ now (rates .exit) ≡ sets (now (rates .entry)) 0 (map runRate (recordsIn buckets (now (bytes .entry)))) ⌝ }
-    ensures { λ _. ⌜ now (depths .exit) ≡ sets (now (depths .entry)) 0 (map runDepth (recordsIn buckets (now (bytes .entry)))) ⌝ }
+    requires { ⌜ buckets ≤ traceLimit ⌝ }
+    ensures { λ r. ⌜ r ≡ held (figures (recordsIn buckets (now (bytes .entry)))) ⌝ }
 {
+    let mut records = blank_records();
     let mut at = BUCKETS_OFFSET;
     let mut i = 0;
     while i < buckets {
         let x = record_at(bytes, at);
-        runs[i] = x.periods;
-        rates[i] = x.bucket.rate.0;
-        depths[i] = x.bucket.depth.0;
+        records[i] = x;
         at += RECORD_BYTES;
         i += 1;
     }
+    records
 }
 
-// Stores the bytes of the first records of three lists from `at` on.
+// Stores the bytes of the first records of an array from `at` on.
 pub fn put_records(
     bytes: &mut [u8],
     at: usize,
     buckets: usize,
-    runs: &[u32],
-    rates: &[u32],
-    depths: &[u32],
+    records: [BucketRecord; TRACE_LIMIT],
 )
     requires { ⌜ at + 12 * buckets ≤ length (now bytes) ⌝ }
-    requires { ⌜ buckets ≤ roomOf (now runs) (now rates) (now depths) ⌝ }
-    ensures { λ _. ⌜ now (bytes .exit) ≡ sets (now (bytes .entry)) at (bytesOfAll recordBytes (recordsOf buckets (now (runs .entry)) (now (rates .entry)) (now (depths .entry)))) ⌝ }
+    requires { ⌜ buckets ≤ traceLimit ⌝ }
+    ensures { λ _. ⌜ now (bytes .exit) ≡ sets (now (bytes .entry)) at (bytesOfAll recordBytes (take buckets records)) ⌝ }
 {
     let mut next = at;
     let mut i = 0;
     while i < buckets {
-        let words = [runs[i], rates[i], depths[i]];
+        let x = records[i];
+        let words = [x.periods, x.bucket.rate.0, x.bucket.depth.0];
         put_words(bytes, next, &words);
         next += RECORD_BYTES;
         i += 1;

@@ -1,18 +1,31 @@
 -- The records from the place reached on are left to be weighed.
 use Prim.Native.Nat.{ℕ, _+_, _-_, _*_}
 use native.Mathlib.Omega.{arith}
-use mathlib.Core.Path.{_≡_, _∙_}
-use mathlib.Core.List.{List}
+use mathlib.Core.Path.{_≡_, sym, ap, subst, _∙_}
+use mathlib.Core.Bool.{true}
+use mathlib.Core.List.{List, _∷_}
 use borrow.Author.Needs.{needs}
 use Rattle.plan_file.specs.declared.records.Tally.{Tally}
-use Rattle.plan_file.specs.Plan.{bucketsOffset, recordAt}
+use Rattle.terms.specs.declared.BucketRecord.{BucketRecord}
+use Rattle.terms.specs.Records.{Cutting}
+use Rattle.encoding.specs.Number.{itemsAt}
+use Rattle.encoding.specs.StoreLaws.{items-next, items-none}
+use Rattle.plan_file.specs.Plan.{bucketsOffset, recordAt, recordsIn}
 use Rattle.plan_file.specs.RecordLaws.{Weighed, none-weighed, one-weighed, all-weighed}
 use Rattle.plan_file.proofs.records.records_in_file.Statement.{statement}
 use Rattle.plan_file.proofs.records.records_in_file.Tie as tie
 
 record Weighing (bs : List ℕ) (k : ℕ) (t : Tally) (at i : ℕ) : Type 0 where
   place : at ≡ bucketsOffset + 12 * i
-  weighed : Weighed (recordAt bs) 12 k bucketsOffset t at i
+  weighed : Weighed (recordsIn k bs) t i (itemsAt (recordAt bs) 12 (k - i) at)
+
+begin : (bs : List ℕ) (k : ℕ) → Weighing bs k (record { ok = true; sum = 0 }) bucketsOffset 0
+begin bs k =
+    let n : k ≡ k - 0 = omega arith in
+    record {
+      place = omega arith;
+      weighed = subst (λ (m : ℕ). Weighed (recordsIn k bs) (record { ok = true; sum = 0 }) 0 (itemsAt (recordAt bs) 12 m bucketsOffset)) n (none-weighed (recordsIn k bs));
+    }
 
 abbrev Inv-loop : tie.InvT-loop
 Inv-loop bytes periods buckets tally₀ at₀ i₀ tally at i = Weighing bytes buckets tally at i
@@ -21,7 +34,7 @@ abbrev μ-loop : tie.MeasureT-loop
 μ-loop bytes periods buckets tally₀ at₀ i₀ tally at i = buckets - i
 
 loop-holds : tie.Need-loop-holds Inv-loop μ-loop
-loop-holds c = record { place = omega arith; weighed = none-weighed _ 12 _ bucketsOffset }
+loop-holds c = begin _ _
 
 record-at-requires : tie.Need-record-at-requires Inv-loop μ-loop
 record-at-requires c κs =
@@ -50,16 +63,19 @@ loop-again : tie.Need-loop-again Inv-loop μ-loop
 loop-again c =
     let i = c .before .before in
     let w = i .before .loop .inv in
+    let bs = i .before .before .before .args .bytes .now in
+    let rest : Cutting = itemsAt (recordAt bs) 12 (i .before .before .before .args .buckets - (i .before .loop .i + 1)) (i .before .loop .at + 12) in
+    let next = items-next (recordAt bs) 12 _ (i .before .loop .i) (i .before .loop .at) (i .loop-test .taken) in
     record {
       place = omega (arith, w .place);
-      weighed = one-weighed _ _ _ _ (w .weighed) (i .loop-test .taken) _ _ (c .before .record-at .ensures) (c .push .ensures .0) (c .push .ensures .1);
+      weighed = one-weighed _ (w .weighed) _ _ (next ∙ ap (λ (x : BucketRecord). x ∷ rest) (sym (c .before .record-at .ensures))) _ (c .push .ensures .0) (c .push .ensures .1);
     }
 
 whole-requires : tie.Need-whole-requires Inv-loop μ-loop
 whole-requires c κs = search needs
 
 returns : tie.Need-returns Inv-loop μ-loop
-returns c = c .whole .ensures ∙ all-weighed _ _ _ _ (c .before .before .loop .inv .weighed) (c .before .loop-test .left) _
+returns c = c .whole .ensures ∙ all-weighed _ (c .before .before .loop .inv .weighed) (items-none _ 12 _ _ _ (c .before .loop-test .left)) _
 
 pub records-in-file-spec : {M : Type 1} → statement M
 records-in-file-spec =

@@ -1,7 +1,7 @@
 -- The range of T is as its own check gives it.
 use borrow.Author.Needs.{needs}
-use Rattle.plan_file.proofs.lists.counts_in_range.Statement.{statement}
-use Rattle.plan_file.proofs.lists.counts_in_range.Tie as tie
+use Rattle.plan_file.proofs.layout.counts_in_range.Statement.{statement}
+use Rattle.plan_file.proofs.layout.counts_in_range.Tie as tie
 
 periods-in-range-requires : tie.Need-periods-in-range-requires
 periods-in-range-requires c κs = search needs

@@ -4,8 +4,8 @@ use Rattle.plan_file.specs.Plan.{costOffset, planWords}
 use Rattle.encoding.specs.NumberLaws.{length-bytes, length-all}
 use Rattle.encoding.specs.StoreLaws.{sets-both}
 use borrow.Author.Needs.{needs}
-use Rattle.plan_file.proofs.lists.put_header.Statement.{statement}
-use Rattle.plan_file.proofs.lists.put_header.Tie as tie
+use Rattle.plan_file.proofs.writing.put_header.Statement.{statement}
+use Rattle.plan_file.proofs.writing.put_header.Tie as tie
 
 cast-t4 : tie.Need-cast-t4
 cast-t4 c = search needs

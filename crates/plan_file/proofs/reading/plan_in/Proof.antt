@@ -15,8 +15,8 @@ use Rattle.encoding.specs.HeaderLaws.{placed-range}
 use Rattle.plan_file.specs.Plan.{bucketsOffset, costOffset, countsOk, planKind, planLength, recordedFigures, recordsIn, recordsOk}
 use Rattle.plan_file.specs.PlanRules.{bucketsIn, planPlaced, CountsRange, counts-range, plan-short, plan-foreign, plan-periods, plan-misplaced, plan-cost, plan-records, plan-figures, figures-are}
 use borrow.Author.Needs.{needs}
-use Rattle.plan_file.proofs.lists.plan_in.Statement.{statement}
-use Rattle.plan_file.proofs.lists.plan_in.Tie as tie
+use Rattle.plan_file.proofs.reading.plan_in.Statement.{statement}
+use Rattle.plan_file.proofs.reading.plan_in.Tie as tie
 
 -- past the first test, past the second, and so on
 long : (c : tie.Else1) → leb costOffset (length (c .before .before .args .bytes .now)) ≡ true
