@@ -70,7 +70,7 @@ use denote.Exit.{yes}
 LENT = """
 use Rattle.record_list.proofs.Lent.{Elems, array-in, array-room, lends-mut, mut-back, lends-imm}
 use Rattle.record_list.proofs.Prefix.{OwedMut, OwedImm, lends-front-mut, front-back-mut, lends-front-imm}
-use Rattle.record_list.proofs.Prefix.{front-back-imm, array-out, field-is}
+use Rattle.record_list.proofs.Prefix.{front-back-imm, array-out, field-is, field-was}
 """.strip('\n').split('\n')
 
 KIT_NAMES = set(re.findall(r'[^\s{},]+', '\n'.join(KIT + LENT)))
