@@ -8,7 +8,7 @@ from imports import KIT, KIT_NAMES, LENT, pruned
 from lending import Lending
 from meaning import Part, Slice, To, Val
 from rows import Types, uint
-from text import bare, binders, cons, nest, par, sub, words, wrapped
+from text import bare, binders, cons, nest, par, proj, quoted, sub, words, wrapped
 from walk import Walk, cell
 
 
@@ -41,7 +41,7 @@ class Caller:
     def read(self):
         """The function as the MIR has it, and its frame."""
         f = mir.function(self.crate, '::'.join([self.crate] + self.mods))
-        self.body, self.locals, self.n = self.statements_of(f), f.locals, len(f.locals)
+        self.body, self.locals, self.fields, self.n = self.statements_of(f), f.locals, f.fields, len(f.locals)
         assert len(self.param_names) == f.params, 'a name for each parameter'
         self.params = [Param(self.types, k + 1, x, f.locals[k + 1], self.LENDS)
                        for k, x in enumerate(self.param_names)]
@@ -135,7 +135,21 @@ class Caller:
         if isinstance(x, mir.Lit):
             r = uint(x.width)
             return Val(r, x.value, r.val(x.value), '(refl, lit< tt)')
-        return self.mean[x.local]
+        m = self.mean[x.local]
+        if x.fields and isinstance(m, Slice):
+            assert x.fields == [1], 'of a slice only the length is read'
+            r, length, fits = uint(64), '(length %s)' % m.param.name, 'room%s .0' % m.param.i
+            return Val(r, length, r.val(length), '(refl, %s)' % fits)
+        return self.field(m, *x.fields) if x.fields else m
+
+    def field(self, m, i):
+        """Field i of a struct."""
+        row, of = self.types.row(self.fields[m.row.path][i]), m.row.alias
+        x = '(%s .%s)' % (m.x, quoted(m.row.fields[i]))
+        known = 'LL.owed {0}.the-type {0}′.the-laws {1} ({2} ∷ []) {3}{4}'.format(of, m.x, bare(m.v), m.known, proj(i))
+        if not row.of:
+            return Val(row, x, row.val(x), '(%s)' % known)
+        return self.arrays.of_field(row, x, known)
 
     def assign(self, k, value):
         w = self.w
@@ -143,13 +157,6 @@ class Caller:
             self.address(k, value)
         elif isinstance(value, mir.Built):
             self.built(k, value.parts)
-        elif isinstance(value, mir.Copy) and value.fields:
-            p = self.mean[value.local].param
-            assert value.fields == [1], 'of a slice only the length is read'
-            length, fits = '(length %s)' % p.name, 'room%s .0' % p.i
-            w.copy(k, self.operand(value), '(tt, record { fits = %s })' % fits)
-            self.val[k] = uint(64).val(length)
-            self.mean[k] = Val(uint(64), length, self.val[k], '(refl, %s)' % fits)
         else:
             if isinstance(value, mir.Copy) and value.local in self.arrays.of and value.local not in w.live:
                 self.arrays.whole(value.local)
@@ -186,8 +193,7 @@ class Caller:
 
     def struct(self, row, parts):
         assert len(row.fields) == len(parts), 'name the fields of ' + row.den
-        named = ['«%s»' % f if '_' in f else f for f in row.fields]
-        fields = '; '.join('%s = %s' % (f, m.x) for f, m in zip(named, parts))
+        fields = '; '.join('%s = %s' % (quoted(f), m.x) for f, m in zip(row.fields, parts))
         known = nest([self.arrays.as_field(m) if m.row.of else m.known for m in parts])
         return Val(row, 'record { %s }' % fields, '(vstruct (ofList (%s)))' % cons(bare(m.v) for m in parts),
                    '(%s, (refl, %s))' % (nest(['%s ∷ []' % bare(m.v) for m in parts]), known))

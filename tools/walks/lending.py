@@ -248,6 +248,13 @@ class Lending:
                    % (w.i('r%d' % to), c.local_types[to], c.at(to), known))
             m = Val(res, out, res.val(out), '(refl, %s-fits)' % out)
             c.fresh += [(out, res.den, out), (out + '-fits', '%s < 2 ^ %d' % (out, res.width), known + ' .1')]
+        elif res.fields:
+            at = '{0}.the-type {0}′.the-laws {1}'.format(res.alias, out)
+            w.emit('rewrite ! %d (λ (v : Val). ‵ (fat fullShare (%s) %s 0 v)) (ap only (LL.tells %s (%s ∷ []) %s)) refl $'
+                   % (w.i('r%d' % to), c.local_types[to], c.at(to), at, v, known))
+            m = Val(res, out, res.val(out), known)
+            c.fresh += [(out, res.den, out), (known, 'Is %s %s (%s ∷ [])' % (res.row, out, bare(m.v)),
+                                              'LL.owes %s (LL.owed %s (%s ∷ []) %s)' % (at, at, v, known))]
         elif res is not UNIT:
             c.fresh += [(out, res.den, out), (v, 'Val', v), (known, 'Is %s %s (%s ∷ [])' % (res.row, out, v), known)]
         c.val[to], c.mean[to] = m.v, m

@@ -36,9 +36,9 @@ pub use meter::open_meter;
 // The smallest depth at a rate, the cheapest bucket, and the cheapest series of buckets.
 pub use depth::DepthAnswer;
 pub use depth::depth_at;
-pub use plans::Plan;
-pub use plans::SeriesAnswer;
-pub use plans::series;
+pub use lent_plans::Plan;
+pub use lent_plans::SeriesAnswer;
+pub use lent_plans::series;
 pub use single::Priced;
 pub use single::SingleAnswer;
 pub use single::single;
@@ -53,10 +53,10 @@ pub use order_file::spread;
 pub use order_file::trace_part;
 pub use order_file::write_order;
 pub use plan_file::LONGEST_PLAN;
-pub use plans::PlanAnswer;
-pub use plans::PlanFigures;
-pub use plans::read_plan;
-pub use plans::write_plan;
+pub use lent_plans::PlanAnswer;
+pub use lent_plans::PlanFigures;
+pub use lent_plans::read_plan;
+pub use lent_plans::write_plan;
 
 // From an order file to a plan that is recorded and metered.
 pub use booking::Booking;
