@@ -15,10 +15,10 @@ use Rattle.record_list.specs.HeldLaws.{held-records}
 use Rattle.plan_file.specs.declared.answers.PlanFigures.{PlanFigures}
 use Rattle.plan_file.specs.Plan.{Recorded, bucketsOf, figuresIn, planFile, readPlan, recordedFigures}
 use Rattle.plan_file.specs.CallLaws.{count-fits}
-use Rattle.planning.specs.declared.planned_orders.PlannedAny.{PlannedAny}
 use Rattle.planning.specs.declared.planned_orders.PlannedOrder.{PlannedOrder}
+use Rattle.planning.specs.declared.planned_orders.PlannedRecords.{PlannedRecords}
 use Rattle.planning.specs.Planning.{planned, plannedSays}
-use Rattle.planning.specs.AnyLaws.{PlansAny, any-refused, any-plan, any-planned, any-figures, any-records}
+use Rattle.planning.specs.CallLaws.{PlansOrder, plan-refused, the-plan, plan-found, plan-figures, records-are}
 use Rattle.booking.specs.Booking.{planFigures}
 use Rattle.exports.specs.Answers.{coded, figureOr, planFileIn, plannedCost, readIn}
 use Rattle.exports.specs.ListLaws.{lists-kept}
@@ -31,29 +31,29 @@ use Rattle.exports.specs.LentNumberLaws.{code-refused, code-found, numbe
 abbrev pub figuresFor : PlannedOrder → PlanFigures
 figuresFor y = record { periods = y .order .periods; buckets = y .plan .buckets; cost = y .plan .cost }
 
-module _ (bs : List ℕ) (r : PlannedAny) (p : PlansAny bs r) where
+module _ (bs : List ℕ) (r : PlannedRecords) (p : PlansOrder bs traceLimit traceLimit r) where
   pub cost-refused : (n : ℕ) → plannedSays (r .answer) ≡ refused n → refused n ≡ plannedCost bs
-  cost-refused n f = sym (ap (onFigures (λ x. trueCost (x .order .tariff) (x .cutting))) (any-refused bs r p n f))
+  cost-refused n f = sym (ap (onFigures (λ x. trueCost (x .order .tariff) (x .cutting))) (plan-refused bs traceLimit traceLimit r p n f))
 
   pub file-refused : (n : ℕ) → plannedSays (r .answer) ≡ refused n → (old : List ℕ) → Fills (planFileIn (length old) bs) old (refused n) old
-  file-refused n f old = fill-refused (planFileIn (length old) bs) old n (sym (then-refused (planned traceLimit traceLimit bs) _ (any-refused bs r p n f)))
+  file-refused n f old = fill-refused (planFileIn (length old) bs) old n (sym (then-refused (planned traceLimit traceLimit bs) _ (plan-refused bs traceLimit traceLimit r p n f)))
 
   module _ (y : PlannedOrder) (f : plannedSays (r .answer) ≡ figures y) where
     pub cost-found : figures (y .plan .cost) ≡ plannedCost bs
     cost-found =
-        ap (λ (z : PlannedOrder). figures (z .plan .cost)) (sym (any-figures bs r p y f))
-        ∙ sym (ap (onFigures (λ x. trueCost (x .order .tariff) (x .cutting))) (any-planned bs r p y f))
+        ap (λ (z : PlannedOrder). figures (z .plan .cost)) (sym (plan-figures bs traceLimit traceLimit r p y f))
+        ∙ sym (ap (onFigures (λ x. trueCost (x .order .tariff) (x .cutting))) (plan-found bs traceLimit traceLimit r p y f))
 
     -- a file written from the records is the definition's
     pub file-found : (old new : List ℕ) (a : Answer ℕ)
         → Fills (planFile traceLimit (length old) (figuresFor y) (take (y .plan .buckets) (r .records))) old a new
         → Fills (planFileIn (length old) bs) old a new
     file-found old new a k =
-        let x = any-plan bs r p y f in
+        let x = the-plan bs traceLimit traceLimit r p y f in
         let file : PlannedOrder → Cutting → Answer (List ℕ) = λ z xs. planFile traceLimit (length old) (figuresFor z) xs in
         let e : file y (take (y .plan .buckets) (r .records)) ≡ planFileIn (length old) bs =
-        ap (file y) (any-records bs r p y f) ∙ ap (λ (z : PlannedOrder). file z (x .cutting)) (sym (any-figures bs r p y f))
-        ∙ then-figures (planned traceLimit traceLimit bs) (λ z. planFile traceLimit (length old) (planFigures z) (z .cutting)) (any-planned bs r p y f) in
+        ap (file y) (records-are bs traceLimit traceLimit r p y f) ∙ ap (λ (z : PlannedOrder). file z (x .cutting)) (sym (plan-figures bs traceLimit traceLimit r p y f))
+        ∙ then-figures (planned traceLimit traceLimit bs) (λ z. planFile traceLimit (length old) (planFigures z) (z .cutting)) (plan-found bs traceLimit traceLimit r p y f) in
         subst (λ (b : Answer (List ℕ)). Fills b old a new) e k
 
 -- ---- A plan read

@@ -7,7 +7,7 @@ use plan_file::PlanFigures;
 use plan_file::reading::read_records;
 use plan_file::writing::write_records;
 use planning::planned_orders::PlannedAnswer;
-use planning::planned_orders::plan_any;
+use planning::planned_orders::plan_order;
 use terms::limits::TRACE_LIMIT;
 use terms::numbers::shorter;
 ghost use mathlib.Core.Path.{_≡_};
@@ -23,7 +23,7 @@ ghost use Rattle.exports.specs.Lists.{Filled, lists};
 pub extern "C" fn metqoraz_series(order: &[u8]) -> u64
     ensures { λ r. ⌜ r ≡ coded (plannedCost (now (order .entry))) ⌝ }
 {
-    let answer = plan_any(order).answer;
+    let answer = plan_order(order, TRACE_LIMIT, TRACE_LIMIT).answer;
     match answer {
         PlannedAnswer::Found(x) => x.plan.cost,
         PlannedAnswer::Refused(why) => coded_refusal(why),
@@ -37,7 +37,7 @@ pub extern "C" fn metqoraz_book(order: &[u8], plan: &mut [u8]) -> u64
     ensures { λ r. ⌜ r ≡ coded (onFigures length (planFileIn (length (now (plan .entry))) (now (order .entry)))) ⌝ }
     ensures { λ _. ⌜ now (plan .exit) ≡ filled (planFileIn (length (now (plan .entry))) (now (order .entry))) (now (plan .entry)) ⌝ }
 {
-    let planned = plan_any(order);
+    let planned = plan_order(order, TRACE_LIMIT, TRACE_LIMIT);
     let answer = planned.answer;
     let found = match answer {
         PlannedAnswer::Found(x) => x,
