@@ -13,20 +13,21 @@ use Rattle.terms.specs.Limits.{traceLimit}
 use Rattle.terms.specs.RangeLaws.{periods-range}
 use Rattle.terms.specs.Ranges.{periodsOk, tariffOk}
 use Rattle.terms.specs.Records.{Cutting}
-use Rattle.record_list.specs.ListLaws.{counted-on, lists-kept}
-use Rattle.record_list.specs.Lists.{RecordLists, Filled, counted}
-use Rattle.series.specs.declared.plans.Plan.{Plan}
+use Rattle.terms.specs.declared.refusal.Refusal.{Refusal}
+use Rattle.terms.specs.Refusals.{numberOf}
+use Rattle.record_list.specs.Held.{blank, held, counted}
+use Rattle.record_list.specs.HeldLaws.{counted-on}
+use Rattle.series.specs.declared.answers.SeriesAnswer.the-variants.{Refused}
+use Rattle.series.specs.declared.answers.SeriesRecords.{SeriesRecords}
+use Rattle.series.specs.declared.answers.Plan.{Plan}
 use Rattle.series.specs.OutlineLaws.{carried-count}
-use Rattle.series.specs.Series.{cheapestCut, planOf, seriesOf}
+use Rattle.series.specs.Series.{cheapestCut, planOf, seriesOf, seriesSays}
 use Rattle.series.specs.SeriesLaws.{series-cheapest, series-room}
 
-module _ (t : Tariff) (old : RecordLists) where
-  -- What is answered, and what the lists hold.
-  abbrev pub Result : Answer Plan → RecordLists → Answer Cutting → Type 0
-  Result r new a = (r ≡ planOf t a) × Filled a old new
-
-  pub refusal : (a : Answer Cutting) (n : ℕ) → a ≡ refused n → Result (refused n) old a
-  refusal a n e = (sym (ap (planOf t) e), lists-kept a old n e)
+-- A refusal is answered, and there are no records.
+module _ (t : Tariff) (a : Answer Cutting) (why : Refusal) (r : SeriesRecords) (e : r ≡ record { answer = Refused why; records = blank }) where
+  pub refusal : a ≡ refused (numberOf why) → (seriesSays (r .answer) ≡ planOf t a) × (r .records ≡ held a)
+  refusal f = rw (e, f) (refl, refl)
 
 module _ (t : Tariff) (room : ℕ) (ds : List ℕ) where
   abbrev answer : Answer Cutting
@@ -39,7 +40,7 @@ module _ (t : Tariff) (room : ℕ) (ds : List ℕ) where
   unfolding seriesOf
   few-periods xs e = periods-range _ (weigh-figures (periodsOk (length ds)) 3 (weigh (tariffOk t) 5 (weigh (leb (length ds) room) 6 (cheapestCut t ds))) e .0) .few
 
-  -- The records fit the lent list and the lists that hold their figures.
+  -- The records fit the lent list and the array that holds them.
   pub count-fits : (n : ℕ) → n ≡ counted length answer → (n ≤ room) × (n ≤ traceLimit)
   count-fits n e = go answer refl
     where

@@ -5,8 +5,8 @@ use Prim.Native.Nat.{ℕ, suc, _+_, _≤_, _<_}
 use native.Mathlib.Omega.{arith}
 use native.Mathlib.Numerals.{add-one}
 use mathlib.Core.Path.{_≡_, refl, sym, ap, _∙_}
-use mathlib.Core.List.{List, [], _∷_, map}
-use lib.ListN.{length, take, drop, getD, set, length-drop, length-set, length-map}
+use mathlib.Core.List.{List, [], _∷_}
+use lib.ListN.{length, take, drop, getD, length-drop}
 use lib.Seq.{drop-cons, drop-drop}
 use Rattle.terms.specs.declared.BucketRecord.{BucketRecord}
 use Rattle.terms.specs.declared.Tariff.{Tariff}
@@ -17,9 +17,7 @@ use Rattle.terms.specs.RangeLaws.{periods-ok, tariff-ok}
 use Rattle.single.specs.Single.{singleOf}
 use Rattle.series.specs.RunLaws.{best-runs, best-of-none}
 use Rattle.series.specs.Series.{runCost, recordFor, runRecord, cheapestCut, planOf}
-use Rattle.record_list.specs.FrontLaws.{front, front-filled, next-map}
-use Rattle.record_list.specs.ListLaws.{noRecord}
-use Rattle.record_list.specs.Lists.{recorded}
+use Rattle.record_list.specs.Held.{noRecord}
 use Rattle.terms.specs.Records.{Cutting, runLength}
 use Rattle.series.specs.SeriesLaws.{record-whole, series-is}
 use Rattle.first_runs.specs.Outline.{unpriced}
@@ -75,28 +73,6 @@ pub record Firsts (t : Tariff) (ds firsts : List ℕ) : Type 0 where
   pub found : cheapestCut t ds ≡ figures cut
   pub room : length ds < length firsts
   pub first : (j : ℕ) → j ≤ length ds → getD firsts j 0 ≡ outlineFrom t ds j .first
-
--- ---- The lists
-
--- One figure of the first k records is stored.
-pub record Stored (figure : BucketRecord → ℕ) (cut : Cutting) (k : ℕ) (old new : List ℕ) : Type 0 where
-  pub same : length new ≡ length old
-  pub is : new ≡ front k (map figure cut) old
-
-pub stored-none : (figure : BucketRecord → ℕ) (cut : Cutting) (old : List ℕ) → Stored figure cut 0 old old
-stored-none figure cut old = record { same = refl; is = refl }
-
-module _ (figure : BucketRecord → ℕ) (cut : Cutting) (old new : List ℕ) where
-  pub stored-next : (k v : ℕ) → k < length cut → k < length old → v ≡ figure (getD cut k noRecord)
-      → Stored figure cut k old new → Stored figure cut (k + 1) old (set new k v)
-  stored-next k v l m e s =
-      record {
-        same = length-set new k v ∙ s .same;
-        is = ap (λ (ys : List ℕ). set ys k v) (s .is) ∙ ap (set (front k (map figure cut) old) k) e ∙ next-map figure k cut old noRecord l m;
-      }
-
-  pub stored-all : (k : ℕ) → k ≡ length cut → Stored figure cut k old new → new ≡ recorded figure (figures cut) old
-  stored-all k e s = s .is ∙ front-filled k (map figure cut) old (length-map cut figure ∙ sym e)
 
 -- ---- The outline from the first period on
 

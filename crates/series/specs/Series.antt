@@ -17,9 +17,9 @@ use Rattle.terms.specs.Records.{Cutting, runLength, total}
 use Rattle.single.specs.declared.costs.Priced.{Priced}
 use Rattle.single.specs.Cost.{costOf}
 use Rattle.single.specs.Single.{Serves, cheapestOf}
-use Rattle.series.specs.declared.plans.Plan.{Plan}
-use Rattle.series.specs.declared.plans.SeriesAnswer.{SeriesAnswer}
-use Rattle.series.specs.declared.plans.SeriesAnswer.the-variants.{Found, Refused}
+use Rattle.series.specs.declared.answers.Plan.{Plan}
+use Rattle.series.specs.declared.answers.SeriesAnswer.{SeriesAnswer}
+use Rattle.series.specs.declared.answers.SeriesAnswer.the-variants.{Found, Refused}
 use Rattle.series.specs.Cutting.{Cuts, Choices, wins, best}
 
 -- A run is billed for its exact length, with its own fee.

@@ -1,8 +1,9 @@
 // The cheapest cutting of a trace into runs with a bucket each, for the crates above.
-pub mod lists;
-mod plans;
+mod answers;
+pub mod planner;
 mod records;
 mod suffixes;
 
-pub use plans::Plan;
-pub use plans::SeriesAnswer;
+pub use answers::Plan;
+pub use answers::SeriesAnswer;
+pub use answers::SeriesRecords;

@@ -2,13 +2,14 @@
 use Prim.Native.Nat.{ℕ, _+_, _-_, _≤_, _<_}
 use Rattle.series.specs.Cutting.{bests}
 use Rattle.series.specs.OutlineLaws.{carried-count}
-use Rattle.series.specs.RecordLaws.{Firsts, NextRun, Stored, next-run, stored-none, stored-next, stored-all}
+use Rattle.series.specs.RecordLaws.{Firsts, NextRun, next-run}
 use Rattle.series.specs.Series.{cheapestCut, runRecord}
-use Rattle.record_list.specs.ListLaws.{noRecord, rooms}
-use Rattle.record_list.specs.Lists.{recorded, roomOf}
-use Rattle.terms.specs.Records.{Cutting, runDepth, runLength, runRate}
 use Rattle.series.specs.SeriesLaws.{IsSeries, series-is}
-use Rattle.terms.specs.Answer.{Answer, figures}
+use Rattle.record_list.specs.FrontLaws.{front, next-front, front-filled}
+use Rattle.record_list.specs.Held.{noRecord, blank, held}
+use Rattle.record_list.specs.HeldLaws.{length-blank}
+use Rattle.terms.specs.Records.{Cutting, runLength}
+use Rattle.terms.specs.Answer.{figures}
 use Rattle.terms.specs.AnswerLaws.{same-figures}
 use Rattle.terms.specs.RangeRules.{PeriodsRange}
 use Rattle.terms.specs.declared.Bucket.{Bucket}
@@ -23,19 +24,17 @@ use native.Mathlib.Omega.{arith}
 use Rattle.series.proofs.records.record_runs.Statement.{statement}
 use Rattle.series.proofs.records.record_runs.Tie as tie
 
-record Recording (t : Tariff) (ds runs₀ rates₀ depths₀ runs rates depths : List ℕ) (start k : ℕ) : Type 0 where
+record Recording (t : Tariff) (ds : List ℕ) (records : Cutting) (start k : ℕ) : Type 0 where
   cut : Cutting
   found : cheapestCut t ds ≡ figures cut
   few : length cut ≤ length ds
   inside : start ≤ length ds
   so-far : k ≤ length cut
   rest : cheapestCut t (drop start ds) ≡ figures (drop k cut)
-  runs-stored : Stored runLength cut k runs₀ runs
-  rates-stored : Stored runRate cut k rates₀ rates
-  depths-stored : Stored runDepth cut k depths₀ depths
+  stored : records ≡ front k cut blank
 
-begin : (t : Tariff) (ds firsts runs rates depths : List ℕ) → Firsts t ds firsts → Recording t ds runs rates depths runs rates depths 0 0
-begin t ds firsts runs rates depths f =
+begin : (t : Tariff) (ds firsts : List ℕ) (records : Cutting) → records ≡ blank → Firsts t ds firsts → Recording t ds records 0 0
+begin t ds firsts records e f =
     record {
       cut = f .cut;
       found = f .found;
@@ -43,12 +42,10 @@ begin t ds firsts runs rates depths f =
       inside = omega arith;
       so-far = omega arith;
       rest = f .found;
-      runs-stored = stored-none runLength (f .cut) runs;
-      rates-stored = stored-none runRate (f .cut) rates;
-      depths-stored = stored-none runDepth (f .cut) depths;
+      stored = e;
     }
 
-module _ (t : Tariff) (ds runs₀ rates₀ depths₀ runs rates depths : List ℕ) (start k : ℕ) (r : Recording t ds runs₀ rates₀ depths₀ runs rates depths start k) where
+module _ (t : Tariff) (ds : List ℕ) (records : Cutting) (start k : ℕ) (r : Recording t ds records start k) where
   module _ (firsts : List ℕ) (f : Firsts t ds firsts) (l : start < length ds) where
     -- the run that a turn stores
     abbrev this : BucketRecord
@@ -56,6 +53,9 @@ module _ (t : Tariff) (ds runs₀ rates₀ depths₀ runs rates depths : List �
 
     next : NextRun t ds (r .cut) start k this
     next = next-run t ds (r .cut) start k l (r .rest)
+
+    more : k < length (r .cut)
+    more = next .more
 
     length-is : getD firsts start 0 ≡ runLength this
     length-is = f .first start (r .inside) ∙ next .length-kept
@@ -83,19 +83,16 @@ module _ (t : Tariff) (ds runs₀ rates₀ depths₀ runs rates depths : List �
     part-record : runRecord t part ≡ figures this
     part-record = ap (runRecord t) part-is ∙ next .is-record
 
-    k-room : length ds ≤ roomOf runs₀ rates₀ depths₀ → (k < length runs) × (k < length rates) × (k < length depths)
-    k-room m =
-        let room = rooms (length ds) runs₀ rates₀ depths₀ m in (
-          omega (arith, next .more, r .few, room .first, r .runs-stored .same),
-          omega (arith, next .more, r .few, room .second, r .rates-stored .same),
-          omega (arith, next .more, r .few, room .third, r .depths-stored .same),
-        )
+    k-room : PeriodsRange (length ds) → k < 512
+    k-room p = omega (arith, next .more, r .few, p .few)
 
-    step : (b : Bucket) → runRecord t part ≡ figures (record { periods = length part; bucket = b }) → length ds ≤ roomOf runs₀ rates₀ depths₀
-        → Recording t ds runs₀ rates₀ depths₀ (set runs k (getD firsts start 0)) (set rates k (b .rate .0)) (set depths k (b .depth .0)) (start + getD firsts start 0) (k + 1)
-    step b e m =
-        let room = rooms (length ds) runs₀ rates₀ depths₀ m in
-        let b-is : b ≡ this .bucket = ap (λ (x : BucketRecord). x .bucket) (same-figures (sym e ∙ part-record)) in
+    this-is : (b : Bucket) → runRecord t part ≡ figures (record { periods = length part; bucket = b })
+        → _≡_ {A = BucketRecord} (record { periods = getD firsts start 0; bucket = b }) this
+    this-is b e = ap (λ (n : ℕ). record { periods = n; bucket = b }) (sym part-length) ∙ same-figures (sym e ∙ part-record)
+
+    step : (b : Bucket) → runRecord t part ≡ figures (record { periods = length part; bucket = b }) → PeriodsRange (length ds)
+        → Recording t ds (set records k (record { periods = getD firsts start 0; bucket = b })) (start + getD firsts start 0) (k + 1)
+    step b e p =
         record {
           cut = r .cut;
           found = r .found;
@@ -103,9 +100,10 @@ module _ (t : Tariff) (ds runs₀ rates₀ depths₀ runs rates depths : List �
           inside = ends;
           so-far = omega (arith, next .more);
           rest = ap (λ (n : ℕ). cheapestCut t (drop (start + n) ds)) length-is ∙ next .onward;
-          runs-stored = stored-next runLength (r .cut) runs₀ runs k _ (next .more) (omega (arith, next .more, r .few, room .first)) length-is (r .runs-stored);
-          rates-stored = stored-next runRate (r .cut) rates₀ rates k _ (next .more) (omega (arith, next .more, r .few, room .second)) (ap (λ (b : Bucket). b .rate .0) b-is) (r .rates-stored);
-          depths-stored = stored-next runDepth (r .cut) depths₀ depths k _ (next .more) (omega (arith, next .more, r .few, room .third)) (ap (λ (b : Bucket). b .depth .0) b-is) (r .depths-stored);
+          stored =
+              ap (λ (ys : Cutting). set ys k (record { periods = getD firsts start 0; bucket = b })) (r .stored)
+              ∙ ap (set (front k (r .cut) blank) k) (this-is b e)
+              ∙ next-front k (r .cut) blank noRecord (next .more) (omega (arith, k-room p, length-blank));
         }
 
   all-stored : length ds ≤ start → k ≡ length (r .cut)
@@ -114,19 +112,20 @@ module _ (t : Tariff) (ds runs₀ rates₀ depths₀ runs rates depths : List �
       let e : drop k (r .cut) ≡ [] = same-figures (sym (r .rest) ∙ ap (cheapestCut t) (drop-of-length-le ds l)) in
       omega (arith, r .so-far, length-drop k (r .cut), ap length e)
 
-  end : (figure : BucketRecord → ℕ) (old new : List ℕ) → Stored figure (r .cut) k old new → length ds ≤ start → new ≡ recorded figure (cheapestCut t ds) old
-  end figure old new s l = stored-all figure (r .cut) old new k (all-stored l) s ∙ ap (λ (a : Answer Cutting). recorded figure a old) (sym (r .found))
+  end : length ds ≤ start → records ≡ held (cheapestCut t ds)
+  end l = r .stored ∙ front-filled k (r .cut) blank (sym (all-stored l)) ∙ ap held (sym (r .found))
 
 abbrev Inv-loop : tie.InvT-loop
-Inv-loop trace tariff firsts runs₀ rates₀ depths₀ start₀ k₀ runs rates depths start k = Recording tariff trace runs₀ rates₀ depths₀ runs rates depths start k
+Inv-loop trace tariff firsts records₀ start₀ k₀ records start k = Recording tariff trace records start k
 
 abbrev μ-loop : tie.MeasureT-loop
-μ-loop trace tariff firsts runs₀ rates₀ depths₀ start₀ k₀ runs rates depths start k = length trace - start
+μ-loop trace tariff firsts records₀ start₀ k₀ records start k = length trace - start
+
+blank-records-requires : tie.Need-blank-records-requires Inv-loop μ-loop
+blank-records-requires c κs = search needs
 
 loop-holds : tie.Need-loop-holds Inv-loop μ-loop
-loop-holds c =
-    let s = c .before .before .before .before .before in
-    begin _ _ _ _ _ _ (s .pre .1 .1 .0)
+loop-holds c = begin _ _ _ _ (c .blank-records .ensures) (c .before .before .before .pre .1 .1)
 
 mul-periods : tie.Need-mul-periods Inv-loop μ-loop
 mul-periods c = search needs
@@ -134,23 +133,18 @@ mul-periods c = search needs
 shared-slice-read-periods : tie.Need-shared-slice-read-periods Inv-loop μ-loop
 shared-slice-read-periods c = search needs
 
--- the run ends inside the trace, and the lists have room for its record
-run-ends : (c : tie.In-loop Inv-loop μ-loop) → let s = c .before .before .before .before .before .before .before in
-    c .before .loop .start + getD (s .args .firsts .now) (c .before .loop .start) 0 ≤ length (s .args .trace .now)
-run-ends c =
-    let s = c .before .before .before .before .before .before .before in
-    ends _ _ _ _ _ _ _ _ _ _ (c .before .loop .inv) _ (s .pre .1 .1 .0) (c .loop-test .taken)
+abbrev start-of : tie.In-loop Inv-loop μ-loop → tie.Start Inv-loop μ-loop
+start-of c = c .before .before .before .before .before
 
-record-room : (c : tie.In-loop Inv-loop μ-loop) → let l = c .before .loop in (l .k < length (l .runs)) × (l .k < length (l .rates)) × (l .k < length (l .depths))
-record-room c =
-    let s = c .before .before .before .before .before .before .before in
-    k-room _ _ _ _ _ _ _ _ _ _ (c .before .loop .inv) _ (s .pre .1 .1 .0) (c .loop-test .taken) (s .pre .1 .1 .1)
+-- the run ends inside the trace
+run-ends : (c : tie.In-loop Inv-loop μ-loop) → c .before .loop .start + getD (start-of c .args .firsts .now) (c .before .loop .start) 0 ≤ length (start-of c .args .trace .now)
+run-ends c = ends _ _ _ _ _ (c .before .loop .inv) _ (start-of c .pre .1 .1) (c .loop-test .taken)
 
 cast-end : tie.Need-cast-end Inv-loop μ-loop
-cast-end c = let s = c .before .before .before .before .before .before .before .before in omega (arith, run-ends (c .before), s .pre .0 .few)
+cast-end c = omega (arith, run-ends (c .before), start-of (c .before) .pre .0 .few)
 
 add-end : tie.Need-add-end Inv-loop μ-loop
-add-end c = let s = c .before .before .before .before .before .before .before .before in omega (arith, run-ends (c .before), s .pre .0 .few)
+add-end c = omega (arith, run-ends (c .before), start-of (c .before) .pre .0 .few)
 
 mul-bucket-of : tie.Need-mul-bucket-of Inv-loop μ-loop
 mul-bucket-of c = search needs
@@ -167,27 +161,17 @@ part-bucket-of-end c = run-ends (c .before)
 bucket-of-requires : tie.Need-bucket-of-requires Inv-loop μ-loop
 bucket-of-requires c κs =
     let i = c .before .before in
-    let s = i .before .before .before .before .before .before .before in
-    let f = s .pre .1 .1 .0 in
-    (part-range _ _ _ _ _ _ _ _ _ _ (i .before .loop .inv) _ f (i .loop-test .taken) (s .pre .0), (s .pre .1 .0, (_, part-record _ _ _ _ _ _ _ _ _ _ (i .before .loop .inv) _ f (i .loop-test .taken))))
+    let s = start-of i in
+    let f = s .pre .1 .1 in
+    (part-range _ _ _ _ _ (i .before .loop .inv) _ f (i .loop-test .taken) (s .pre .0), (s .pre .1 .0, (_, part-record _ _ _ _ _ (i .before .loop .inv) _ f (i .loop-test .taken))))
 
-mul-runs : tie.Need-mul-runs Inv-loop μ-loop
-mul-runs c = search needs
+mul-records : tie.Need-mul-records Inv-loop μ-loop
+mul-records c = search needs
 
-slice-write-runs : tie.Need-slice-write-runs Inv-loop μ-loop
-slice-write-runs c = record-room (c .before .before .before) .0
-
-mul-rates : tie.Need-mul-rates Inv-loop μ-loop
-mul-rates c = search needs
-
-slice-write-rates : tie.Need-slice-write-rates Inv-loop μ-loop
-slice-write-rates c = record-room (c .before .before .before) .1
-
-mul-depths : tie.Need-mul-depths Inv-loop μ-loop
-mul-depths c = search needs
-
-slice-write-depths : tie.Need-slice-write-depths Inv-loop μ-loop
-slice-write-depths c = record-room (c .before .before .before) .2
+array-set-from-records : tie.Need-array-set-from-records Inv-loop μ-loop
+array-set-from-records c =
+    let i = c .before .before .before in
+    k-room _ _ _ _ _ (i .before .loop .inv) _ (start-of i .pre .1 .1) (i .loop-test .taken) (start-of i .pre .0)
 
 add-k : tie.Need-add-k Inv-loop μ-loop
 add-k c = search needs
@@ -195,29 +179,15 @@ add-k c = search needs
 loop-less : tie.Need-loop-less Inv-loop μ-loop
 loop-less c =
     let i = c .before .before .before in
-    let s = i .before .before .before .before .before .before .before in
-    omega (arith, i .loop-test .taken, begins _ _ _ _ _ _ _ _ _ _ (i .before .loop .inv) _ (s .pre .1 .1 .0) (i .loop-test .taken))
+    omega (arith, i .loop-test .taken, begins _ _ _ _ _ (i .before .loop .inv) _ (start-of i .pre .1 .1) (i .loop-test .taken))
 
 loop-again : tie.Need-loop-again Inv-loop μ-loop
 loop-again c =
     let i = c .before .before .before in
-    let s = i .before .before .before .before .before .before .before in
-    step _ _ _ _ _ _ _ _ _ _ (i .before .loop .inv) _ (s .pre .1 .1 .0) (i .loop-test .taken) _ (c .bucket-of .ensures) (s .pre .1 .1 .1)
-
-same-length : tie.Need-same-length Inv-loop μ-loop
-same-length c = c .before .loop .inv .runs-stored .same
-
-same-length-2 : tie.Need-same-length-2 Inv-loop μ-loop
-same-length-2 c = c .before .loop .inv .rates-stored .same
-
-same-length-3 : tie.Need-same-length-3 Inv-loop μ-loop
-same-length-3 c = c .before .loop .inv .depths-stored .same
+    step _ _ _ _ _ (i .before .loop .inv) _ (start-of i .pre .1 .1) (i .loop-test .taken) _ (c .bucket-of .ensures) (start-of i .pre .0)
 
 returns : tie.Need-returns Inv-loop μ-loop
-returns c =
-    let r = c .before .loop .inv in
-    let l = c .loop-test .left in
-    (end _ _ _ _ _ _ _ _ _ _ r runLength _ _ (r .runs-stored) l, (end _ _ _ _ _ _ _ _ _ _ r runRate _ _ (r .rates-stored) l, end _ _ _ _ _ _ _ _ _ _ r runDepth _ _ (r .depths-stored) l))
+returns c = end _ _ _ _ _ (c .before .loop .inv) (c .loop-test .left)
 
 pub record-runs-spec : {M : Type 1} → statement M
 record-runs-spec =
@@ -225,6 +195,7 @@ record-runs-spec =
     (tie.spec
     Inv-loop
     μ-loop
+    blank-records-requires
     loop-holds
     mul-periods
     shared-slice-read-periods
@@ -235,16 +206,9 @@ record-runs-spec =
     part-bucket-of-start
     part-bucket-of-end
     bucket-of-requires
-    mul-runs
-    slice-write-runs
-    mul-rates
-    slice-write-rates
-    mul-depths
-    slice-write-depths
+    mul-records
+    array-set-from-records
     add-k
     loop-less
     loop-again
-    same-length
-    same-length-2
-    same-length-3
     returns)

@@ -4,8 +4,11 @@ use borrow.Author.Needs.{needs}
 use Rattle.series.specs.RecordLaws.{kept-none, kept-firsts, kept-plan}
 use Rattle.series.specs.CallLaws.{refusal}
 use Rattle.series.specs.SuffixLaws.{kept-start}
-use Rattle.series.proofs.lists.cheapest.Statement.{statement}
-use Rattle.series.proofs.lists.cheapest.Tie as tie
+use Rattle.series.proofs.planner.cheapest.Statement.{statement}
+use Rattle.series.proofs.planner.cheapest.Tie as tie
+
+abbrev start-of : tie.After-cut-suffixes → tie.Start
+start-of c = c .before .before .before .before .before
 
 slice-aggregate-cut-suffixes : tie.Need-slice-aggregate-cut-suffixes
 slice-aggregate-cut-suffixes c = search needs
@@ -18,8 +21,8 @@ slice-aggregate-cut-suffixes-3 c = search needs
 
 cut-suffixes-requires : tie.Need-cut-suffixes-requires
 cut-suffixes-requires c κs =
-    let s = c .before .before .before .before .before .before .before in
-    (s .pre .0 .few, (s .pre .1 .0, kept-start _ _ (s .pre .0 .few)))
+    let s = c .before .before .before .before in
+    (s .pre .0 .few, (s .pre .1, kept-start _ _ (s .pre .0 .few)))
 
 array-read-buckets : tie.Need-array-read-buckets
 array-read-buckets c = search needs
@@ -27,39 +30,32 @@ array-read-buckets c = search needs
 array-read-cost : tie.Need-array-read-cost
 array-read-cost c = search needs
 
+refused-requires : tie.Need-refused-requires
+refused-requires c κs = search needs
+
 returns : tie.Need-returns
 returns c =
-    let d = c .before .before .before .before in
-    let s = d .before .before .before .before .before .before .before .before in
-    refusal (s .args .tariff) _ _ 7
-    (kept-none _ (s .pre .1 .0) _ (s .pre .0 .few) _ _ _ (d .cut-suffixes .ensures) (c .if1 .taken))
+    let d = c .before .before .before .before .before in
+    let s = start-of d in
+    refusal (s .args .tariff) _ _ _ (c .refused .ensures)
+    (kept-none _ (s .pre .1) _ (s .pre .0 .few) _ _ _ (d .cut-suffixes .ensures) (c .before .if1 .taken))
 
 slice-aggregate-record-runs : tie.Need-slice-aggregate-record-runs
 slice-aggregate-record-runs c = search needs
 
 record-runs-requires : tie.Need-record-runs-requires
 record-runs-requires c κs =
-    let e = c .before .before .before .before in
+    let e = c .before in
     let d = e .before .before .before .before in
-    let s = d .before .before .before .before .before .before .before .before in
-    (s .pre .0, (s .pre .1 .0, (kept-firsts _ (s .pre .1 .0) _ (s .pre .0 .few) _ _ _ (d .cut-suffixes .ensures) (e .if1 .left), s .pre .1 .1)))
-
-same-length : tie.Need-same-length
-same-length c = search needs
-
-same-length-2 : tie.Need-same-length-2
-same-length-2 c = search needs
-
-same-length-3 : tie.Need-same-length-3
-same-length-3 c = search needs
+    let s = start-of d in
+    (s .pre .0, (s .pre .1, kept-firsts _ (s .pre .1) _ (s .pre .0 .few) _ _ _ (d .cut-suffixes .ensures) (e .if1 .left)))
 
 returns-2 : tie.Need-returns-2
 returns-2 c =
-    let r = c .before .before .before .before .before .before in
-    let e = r .before .before .before .before .before in
+    let e = c .before .before in
     let d = e .before .before .before .before in
-    let s = d .before .before .before .before .before .before .before .before in
-    (kept-plan _ (s .pre .1 .0) _ (s .pre .0 .few) _ _ _ (d .cut-suffixes .ensures) (e .if1 .left), r .record-runs .ensures)
+    let s = start-of d in
+    (kept-plan _ (s .pre .1) _ (s .pre .0 .few) _ _ _ (d .cut-suffixes .ensures) (e .if1 .left), c .record-runs .ensures)
 
 pub cheapest-spec : {M : Type 1} → statement M
 cheapest-spec =
@@ -71,10 +67,8 @@ cheapest-spec =
     cut-suffixes-requires
     array-read-buckets
     array-read-cost
+    refused-requires
     returns
     slice-aggregate-record-runs
     record-runs-requires
-    same-length
-    same-length-2
-    same-length-3
     returns-2)

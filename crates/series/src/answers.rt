@@ -1,5 +1,7 @@
 // What the series answers.
+use terms::BucketRecord;
 use terms::Refusal;
+use terms::limits::TRACE_LIMIT;
 
 // A plan's number of buckets and its cost.
 pub struct Plan {
@@ -11,4 +13,10 @@ pub struct Plan {
 pub enum SeriesAnswer {
     Found(Plan),
     Refused(Refusal),
+}
+
+// The answer with the records of the plan found.
+pub struct SeriesRecords {
+    pub answer: SeriesAnswer,
+    pub records: [BucketRecord; TRACE_LIMIT],
 }
