@@ -14,11 +14,11 @@ use Rattle.meter.specs.declared.meters.Meter.{Meter}
 use Rattle.meter.specs.Meter.{meterRun}
 use Rattle.series.specs.Series.{trueCost}
 use Rattle.order_file.specs.Order.{writeOrder}
-use Rattle.record_list.specs.Lists.{RecordLists, roomOf}
 use Rattle.plan_file.specs.Plan.{Recorded, planFile, readPlan}
 use Rattle.planning.specs.Planning.{planned}
 use Rattle.booking.specs.Booking.{planFigures}
 use Rattle.typed_figures.specs.Figures.{tariffFigures, tariffOf}
+use Rattle.exports.specs.Lists.{RecordLists, roomOf}
 
 -- ---- An answer as one number
 

@@ -1,5 +1,7 @@
 -- The definitions that contracts cite, and their laws.
+pub mod Lists
 pub mod Answers
+pub mod ListLaws
 pub mod LentNumberLaws
 pub mod OrderLaws
 pub mod PlanLaws

@@ -3,6 +3,7 @@
 // include/metqoraz.h and rust/src/calls.rs declare them.
 mod answers;
 mod buckets;
+mod figure_lists;
 mod meters;
 mod orders;
 mod plans;

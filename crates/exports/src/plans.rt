@@ -1,30 +1,29 @@
 // Plans: the cheapest plan for an order, its cost or its file, and a plan file read.
 use crate::answers::coded_fill;
 use crate::answers::coded_refusal;
+use crate::figure_lists::store_figures;
 use plan_file::PlanAnswer;
 use plan_file::PlanFigures;
-use plan_file::lists::read_lists;
-use plan_file::lists::write_lists;
-use planning::orders::PlannedAnswer;
-use planning::orders::plan_any;
+use plan_file::reading::read_records;
+use plan_file::writing::write_records;
+use planning::planned_orders::PlannedAnswer;
+use planning::planned_orders::plan_order;
 use terms::limits::TRACE_LIMIT;
 use terms::numbers::shorter;
-ghost use Prim.Native.Nat.{_≤_};
 ghost use mathlib.Core.Path.{_≡_};
 ghost use lib.ListN.{length};
-ghost use lib.Seq.{sets};
 ghost use Rattle.terms.specs.Answer.{onFigures};
 ghost use Rattle.terms.specs.Lent.{filled};
-ghost use Rattle.record_list.specs.Lists.{Filled, lists};
 ghost use Rattle.plan_file.specs.Plan.{bucketsOf};
 ghost use Rattle.exports.specs.Answers.{coded, figureOr, planFileIn, plannedCost, readIn};
+ghost use Rattle.exports.specs.Lists.{Filled, lists};
 
 // The cost of the cheapest plan for an order; or refusal 1 to 5 of the order or 7.
 #[no_mangle]
 pub extern "C" fn metqoraz_series(order: &[u8]) -> u64
     ensures { λ r. ⌜ r ≡ coded (plannedCost (now (order .entry))) ⌝ }
 {
-    let answer = plan_any(order).answer;
+    let answer = plan_order(order, TRACE_LIMIT, TRACE_LIMIT).answer;
     match answer {
         PlannedAnswer::Found(x) => x.plan.cost,
         PlannedAnswer::Refused(why) => coded_refusal(why),
@@ -38,7 +37,7 @@ pub extern "C" fn metqoraz_book(order: &[u8], plan: &mut [u8]) -> u64
     ensures { λ r. ⌜ r ≡ coded (onFigures length (planFileIn (length (now (plan .entry))) (now (order .entry)))) ⌝ }
     ensures { λ _. ⌜ now (plan .exit) ≡ filled (planFileIn (length (now (plan .entry))) (now (order .entry))) (now (plan .entry)) ⌝ }
 {
-    let planned = plan_any(order);
+    let planned = plan_order(order, TRACE_LIMIT, TRACE_LIMIT);
     let answer = planned.answer;
     let found = match answer {
         PlannedAnswer::Found(x) => x,
@@ -49,10 +48,8 @@ pub extern "C" fn metqoraz_book(order: &[u8], plan: &mut [u8]) -> u64
         buckets: found.plan.buckets,
         cost: found.plan.cost,
     };
-    let runs = planned.runs;
-    let rates = planned.rates;
-    let depths = planned.depths;
-    coded_fill(write_lists(figures, TRACE_LIMIT, &runs, &rates, &depths, plan))
+    let records = planned.records;
+    coded_fill(write_records(figures, TRACE_LIMIT, records, plan))
 }
 
 // Reads a plan file: its T and its number of buckets into the two numbers, its run lengths, rates and
@@ -74,37 +71,16 @@ pub extern "C" fn metqoraz_plan(
         (lists (now (runs .entry)) (now (rates .entry)) (now (depths .entry)))
         (lists (now (runs .exit)) (now (rates .exit)) (now (depths .exit))) ⌝ }
 {
-    let mut read_runs = [0u32; TRACE_LIMIT];
-    let mut read_rates = [0u32; TRACE_LIMIT];
-    let mut read_depths = [0u32; TRACE_LIMIT];
     let room = shorter(shorter(runs.len(), rates.len()), depths.len());
-    let read = match read_lists(
-        plan,
-        room,
-        &mut read_runs,
-        &mut read_rates,
-        &mut read_depths,
-    ) {
+    let read = read_records(plan, room);
+    let answer = read.answer;
+    let records = read.records;
+    let found = match answer {
         PlanAnswer::Read(x) => x,
         PlanAnswer::Refused(why) => return coded_refusal(why),
     };
-    let count = read.buckets as usize;
-    store(&read_runs[..count], runs);
-    store(&read_rates[..count], rates);
-    store(&read_depths[..count], depths);
-    *periods = read.periods;
-    *buckets = read.buckets;
-    read.cost
-}
-
-// Stores one list at the front of another.
-fn store(from: &[u32], to: &mut [u32])
-    requires { ⌜ length (now from) ≤ length (now to) ⌝ }
-    ensures { λ _. ⌜ now (to .exit) ≡ sets (now (to .entry)) 0 (now (from .entry)) ⌝ }
-{
-    let mut i = 0;
-    while i < from.len() {
-        to[i] = from[i];
-        i += 1;
-    }
+    store_figures(records, found.buckets as usize, runs, rates, depths);
+    *periods = found.periods;
+    *buckets = found.buckets;
+    found.cost
 }

@@ -1,18 +1,15 @@
 -- What reading an order and spreading its trace gives and leaves: the order's own figures,
 -- and as many demands as its T.
 -- Assumes nothing.
-use Prim.Native.Nat.{ℕ, min, _/_, _≤_}
+use Prim.Native.Nat.{ℕ, _/_, _≤_}
 use native.Mathlib.Omega.{arith}
-use native.Mathlib.Nat.{le-min}
 use mathlib.Core.Path.{_≡_, refl, sym, ap, ap₂, subst, _∙_}
-use mathlib.Core.Bool.{Bool, true, false, _&&_}
+use mathlib.Core.Bool.{false}
 use mathlib.Core.List.{List}
-use borrow.Author.Tests.{leb-true}
 use lib.Dec.{leb}
 use lib.ListN.{length, take, length-take}
 use Rattle.terms.specs.Answer.{Answer, figures, refused, onFigures}
 use Rattle.terms.specs.AnswerLaws.{figures-refused, weigh-figures, on-figures, on-refused, then-figures, then-refused, then-found}
-use Rattle.terms.specs.Bools.{leb-min}
 use Rattle.terms.specs.Lent.{filled}
 use Rattle.terms.specs.Limits.{traceLimit}
 use Rattle.terms.specs.LentLaws.{filled-front}
@@ -91,21 +88,11 @@ module _ (bs : List ℕ) where
         sym (then-figures (readOrder bs) _ (all .read))
         ∙ ap (onFigures (λ ds. record { order = x .order; demands = ds })) (spread-full space part ok (ap (λ (n : ℕ). leb n space) T ∙ h))
 
-  pub ordered-min : (n : ℕ) → ordered (min n traceLimit) bs ≡ ordered n bs
-  ordered-min n = go (ordered traceLimit bs) refl
-    where
-      go : (a : Answer Ordered) → ordered traceLimit bs ≡ a → ordered (min n traceLimit) bs ≡ ordered n bs
-      go (refused m) e = ordered-refused (min n traceLimit) m e ∙ sym (ordered-refused n m e)
-      go (figures x) e = weighed (leb (x .order .periods) n) refl
-        where
-          few : x .order .periods ≤ traceLimit
-          few = omega (arith, ordered-count (is-ordered traceLimit bs x e), ordered-range (is-ordered traceLimit bs x e) .0 .few)
-
-          weighed : (b : Bool) → leb (x .order .periods) n ≡ b → ordered (min n traceLimit) bs ≡ ordered n bs
-          weighed true h = let l = leb-true _ _ h in ordered-found x e (min n traceLimit) (le-min l few) ∙ sym (ordered-found x e n l)
-          weighed false h =
-              ordered-short x e (min n traceLimit) (sym (leb-min (x .order .periods) n traceLimit) ∙ ap (λ (b : Bool). b && leb (x .order .periods) traceLimit) h)
-              ∙ sym (ordered-short x e n h)
+-- What any number of entries gives 512 give too.
+pub ordered-any : {space : ℕ} {bs : List ℕ} {x : Ordered} → IsOrdered space bs x → ordered traceLimit bs ≡ figures x
+ordered-any {space} {bs} {x} p =
+    let few : x .order .periods ≤ traceLimit = omega (arith, ordered-count p, ordered-range p .0 .few) in
+    found-ordered traceLimit bs x (record { read = p .read; spread = orders.read-spread bs (x .order) (p .read) traceLimit few ∙ ap figures (spread-demands p) })
 
 -- ---- Call by call
 

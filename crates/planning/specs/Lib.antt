@@ -2,4 +2,3 @@
 pub mod Planning
 pub mod PlannedLaws
 pub mod CallLaws
-pub mod AnyLaws

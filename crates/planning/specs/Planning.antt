@@ -9,9 +9,9 @@ use Rattle.terms.specs.Refusals.{numberOf}
 use Rattle.series.specs.Series.{trueCost, seriesOf}
 use Rattle.order_file.specs.declared.orders.Order.{Order}
 use Rattle.order_file.specs.Ordered.{ordered}
-use Rattle.planning.specs.declared.orders.PlannedOrder.{PlannedOrder}
-use Rattle.planning.specs.declared.orders.PlannedAnswer.{PlannedAnswer}
-use Rattle.planning.specs.declared.orders.PlannedAnswer.the-variants.{Found, Refused}
+use Rattle.planning.specs.declared.planned_orders.PlannedOrder.{PlannedOrder}
+use Rattle.planning.specs.declared.planned_orders.PlannedAnswer.{PlannedAnswer}
+use Rattle.planning.specs.declared.planned_orders.PlannedAnswer.the-variants.{Found, Refused}
 
 -- What the calls up to planning give.
 pub record Planned : Type 0 where

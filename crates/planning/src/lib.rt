@@ -1,2 +1,2 @@
 // Planning: from an order file to the series planned for it.
-pub mod orders;
+pub mod planned_orders;

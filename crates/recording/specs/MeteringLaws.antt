@@ -5,7 +5,7 @@ use native.Mathlib.Omega.{arith}
 use native.Mathlib.Nat.{add-assoc, zero-add, add-zero}
 use mathlib.Core.Path.{_≡_, refl, sym, ap, subst, _∙_}
 use mathlib.Core.List.{List, [], _∷_}
-use lib.ListN.{length, take, drop}
+use lib.ListN.{length, take, drop, getD}
 use lib.Seq.{drop-drop}
 use Rattle.terms.specs.declared.BucketRecord.{BucketRecord}
 use Rattle.terms.specs.declared.Factor.{Factor}
@@ -16,8 +16,9 @@ use Rattle.terms.specs.Refusals.{numberOf}
 use Rattle.meter.specs.declared.meters.Meter.{Meter}
 use Rattle.meter.specs.Meter.{meterRun}
 use Rattle.meter.specs.MeterLaws.{Sound}
-use Rattle.record_list.specs.Lists.{listed, recordsOf}
-use Rattle.record_list.specs.PartLaws.{Begins, first-begins, next-begins, rest, rest-all, rest-next, rest-none}
+use Rattle.record_list.specs.Held.{noRecord}
+use Rattle.record_list.specs.PartLaws.{Begins, first-begins}
+use Rattle.plan_file.specs.RecordLaws.{first-next, first-none}
 use Rattle.recording.specs.declared.metering.MeterTotals.{MeterTotals}
 use Rattle.recording.specs.declared.metering.TotalsAnswer.{TotalsAnswer}
 use Rattle.recording.specs.declared.metering.TotalsAnswer.the-variants.{Metered, Refused}
@@ -73,44 +74,49 @@ completed-more : (t : MeterTotals) (m : Meter) (a : Answer (List Meter)) → com
 completed-more t m (figures ms) = ap figures (plus-more t m ms)
 completed-more t m (refused n) = refl
 
-module _ (f : Factor) (ds runs rates depths : List ℕ) (k : ℕ) where
-  abbrev left : ℕ → Cutting
-  left = rest runs rates depths k
-
+module _ (f : Factor) (ds : List ℕ) (k : ℕ) (records : Cutting) where
   abbrev whole : Answer MeterTotals
-  whole = onFigures totalsOf (metersOf f ds (recordsOf k runs rates depths))
+  whole = onFigures totalsOf (metersOf f ds (take k records))
 
-  -- i runs are metered, and the next begins at `start`.
+  -- i of the first k runs are metered, and the next begins at `start`.
   pub record Metering (t : MeterTotals) (start i : ℕ) : Type 0 where
     pub few : Few i t
-    pub begins : Begins runs rates depths k ds start i
-    pub is : completed t (metersOf f (drop start ds) (left i)) ≡ whole
+    pub begins : Begins (take k records) ds start i
+    pub is : completed t (metersOf f (drop start ds) (drop i (take k records))) ≡ whole
 
-  pub none-metered : total runLength (recordsOf k runs rates depths) ≡ length ds → Metering none 0 0
+  pub none-metered : total runLength (take k records) ≡ length ds → Metering none 0 0
   none-metered e =
       record {
         few = record { sents = omega arith; overs = omega arith; losts = omega arith; helds = omega arith };
-        begins = first-begins runs rates depths k ds e;
-        is = ap (λ (xs : Cutting). completed none (metersOf f ds xs)) (rest-all runs rates depths k) ∙ completed-none (metersOf f ds (recordsOf k runs rates depths));
+        begins = first-begins (take k records) ds e;
+        is = completed-none (metersOf f ds (take k records));
       }
 
   module _ {t : MeterTotals} {start i : ℕ} (s : Metering t start i) where
-    module _ (l : i < k) where
+    module _ (fits : k ≤ length records) (l : i < k) where
       abbrev this : BucketRecord
-      this = listed runs rates depths i
+      this = getD records i noRecord
+
+      left : drop i (take k records) ≡ this ∷ drop (i + 1) (take k records)
+      left = first-next k records fits i l
+
+      pub run-inside : start + runLength this ≤ length ds
+      unfolding total
+      run-inside = omega (arith, s .begins, ap (total runLength) left)
 
       abbrev onward : Answer Meter → Answer MeterTotals
-      onward a = completed t (andThen a (λ m. onFigures (m ∷_) (metersOf f (drop (runLength this) (drop start ds)) (left (i + 1)))))
+      onward a = completed t (andThen a (λ m. onFigures (m ∷_) (metersOf f (drop (runLength this) (drop start ds)) (drop (i + 1) (take k records)))))
 
       next : whole ≡ onward (meterRun (this .bucket) f (take (runLength this) (drop start ds)))
       unfolding metersOf
-      next = sym (s .is) ∙ ap (λ (xs : Cutting). completed t (metersOf f (drop start ds) xs)) (rest-next runs rates depths k i l)
+      next = sym (s .is) ∙ ap (λ (xs : Cutting). completed t (metersOf f (drop start ds) xs)) left
 
       module _ (a : Answer Meter) (e : a ≡ meterRun (this .bucket) f (take (runLength this) (drop start ds))) where
         pub run-refused : (n : ℕ) → a ≡ refused n → refused n ≡ whole
         run-refused n g = sym (next ∙ ap onward (sym e ∙ g))
 
         metered-next : (m : Meter) → a ≡ figures m → Sound m → Metering (added t m) (start + runLength this) (i + 1)
+        unfolding total
         metered-next m g o =
             record {
               few = record {
@@ -119,10 +125,10 @@ module _ (f : Factor) (ds runs rates depths : List ℕ) (k : ℕ) where
                 losts = omega (arith, s .few .losts, o .totals .losts);
                 helds = omega (arith, s .few .helds, o .totals .holds, o .fresh .bucket .depths);
               };
-              begins = next-begins runs rates depths k ds start i (s .begins) l;
+              begins = omega (arith, s .begins, ap (total runLength) left);
               is =
-                  ap (λ (ys : List ℕ). completed (added t m) (metersOf f ys (left (i + 1)))) (sym (drop-drop (runLength this) start ds))
-                  ∙ sym (completed-more t m (metersOf f (drop (runLength this) (drop start ds)) (left (i + 1))))
+                  ap (λ (ys : List ℕ). completed (added t m) (metersOf f ys (drop (i + 1) (take k records)))) (sym (drop-drop (runLength this) start ds))
+                  ∙ sym (completed-more t m (metersOf f (drop (runLength this) (drop start ds)) (drop (i + 1) (take k records))))
                   ∙ sym (next ∙ ap onward (sym e ∙ g));
             }
 
@@ -133,5 +139,5 @@ module _ (f : Factor) (ds runs rates depths : List ℕ) (k : ℕ) where
     unfolding metersOf
     all-metered l =
         ap figures (sym (plus-none t))
-        ∙ ap (λ (xs : Cutting). completed t (metersOf f (drop start ds) xs)) (sym (rest-none runs rates depths k i l))
+        ∙ ap (λ (xs : Cutting). completed t (metersOf f (drop start ds) xs)) (sym (first-none k records i l))
         ∙ s .is

@@ -11,12 +11,12 @@ use Rattle.terms.specs.Records.{Cutting, runLength, total}
 use Rattle.terms.specs.Refusals.{numberOf}
 use Rattle.meter.specs.declared.meters.Meter.{Meter}
 use Rattle.meter.specs.Meter.{meterRun}
-use Rattle.plan_file.specs.declared.plans.PlanFigures.{PlanFigures}
+use Rattle.plan_file.specs.declared.answers.PlanFigures.{PlanFigures}
 use Rattle.plan_file.specs.Plan.{Recorded, readPlan}
 use Rattle.recording.specs.declared.metering.MeterTotals.{MeterTotals}
-use Rattle.recording.specs.declared.plans.Booking.{Booking}
-use Rattle.recording.specs.declared.plans.BookingAnswer.{BookingAnswer}
-use Rattle.recording.specs.declared.plans.BookingAnswer.the-variants.{Booked, Refused}
+use Rattle.recording.specs.declared.recorded.Booking.{Booking}
+use Rattle.recording.specs.declared.recorded.BookingAnswer.{BookingAnswer}
+use Rattle.recording.specs.declared.recorded.BookingAnswer.the-variants.{Booked, Refused}
 
 -- What recording a plan gives: the bytes written, what is read back from them, and the meters of its runs.
 pub record Recording : Type 0 where

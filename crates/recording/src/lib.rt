@@ -1,7 +1,8 @@
 // Recording: a plan that was found is written into bytes, read back, and each of its runs metered.
 mod metering;
-pub mod plans;
+pub mod recorded;
 
 pub use metering::MeterTotals;
-pub use plans::Booking;
-pub use plans::BookingAnswer;
+pub use recorded::Booking;
+pub use recorded::BookingAnswer;
+pub use recorded::BookingRecords;

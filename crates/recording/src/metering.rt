@@ -3,19 +3,16 @@
 use meter::Meter;
 use meter::MeterAnswer;
 use meter::meter_run;
-use terms::Bucket;
-use terms::Depth;
+use terms::BucketRecord;
 use terms::Factor;
-use terms::Rate;
 use terms::Refusal;
-ghost use Prim.Native.Nat.{_≤_};
+use terms::limits::TRACE_LIMIT;
 ghost use mathlib.Core.Path.{_≡_};
-ghost use lib.ListN.{length};
+ghost use lib.ListN.{length, take};
 ghost use Rattle.terms.specs.Answer.{onFigures};
 ghost use Rattle.terms.specs.Limits.{traceLimit};
 ghost use Rattle.terms.specs.Records.{runLength, total};
 ghost use Rattle.meter.specs.MeterLaws.{Sound};
-ghost use Rattle.record_list.specs.Lists.{recordsOf, roomOf};
 ghost use Rattle.plan_file.specs.PlanRules.{CountsRange};
 ghost use Rattle.recording.specs.Recording.{metersOf, totalsOf};
 ghost use Rattle.recording.specs.MeteringLaws.{added, Few, totalsSays};
@@ -52,20 +49,16 @@ pub enum TotalsAnswer {
 }
 
 // Opens a meter on each recorded bucket with the factor and offers it its run of the trace, first
-// period to last. The records stand at the front of the lists.
+// period to last. The records stand at the front of the array.
 pub fn meter_runs(
     trace: &[u16],
     factor: Factor,
     buckets: usize,
-    runs: &[u32],
-    rates: &[u32],
-    depths: &[u32],
+    records: [BucketRecord; TRACE_LIMIT],
 ) -> TotalsAnswer
-    requires { ⌜ buckets ≤ roomOf (now runs) (now rates) (now depths) ⌝ }
     requires { ⌜ CountsRange (length (now trace)) buckets ⌝ }
-    requires { ⌜ total runLength (recordsOf buckets (now runs) (now rates) (now depths)) ≡ length (now trace) ⌝ }
-    ensures { λ r. ⌜ totalsSays r
-        ≡ onFigures totalsOf (metersOf factor (now (trace .entry)) (recordsOf buckets (now (runs .entry)) (now (rates .entry)) (now (depths .entry)))) ⌝ }
+    requires { ⌜ total runLength (take buckets records) ≡ length (now trace) ⌝ }
+    ensures { λ r. ⌜ totalsSays r ≡ onFigures totalsOf (metersOf factor (now (trace .entry)) (take buckets records)) ⌝ }
 {
     let mut totals = MeterTotals {
         sent: 0,
@@ -76,12 +69,9 @@ pub fn meter_runs(
     let mut start = 0;
     let mut i = 0;
     while i < buckets {
-        let end = start + runs[i] as usize;
-        let bucket = Bucket {
-            rate: Rate(rates[i]),
-            depth: Depth(depths[i]),
-        };
-        let meter = match meter_run(bucket, factor, &trace[start..end]) {
+        let x = records[i];
+        let end = start + x.periods as usize;
+        let meter = match meter_run(x.bucket, factor, &trace[start..end]) {
             MeterAnswer::Opened(m) => m,
             MeterAnswer::Refused(why) => return TotalsAnswer::Refused(why),
         };

@@ -5,8 +5,8 @@ use Rattle.recording.specs.declared.metering.TotalsAnswer.{TotalsAnswer}
 use Rattle.recording.specs.MeteringLaws.{totalsSays}
 use Rattle.recording.specs.RecordingLaws.{withMeters}
 use borrow.Author.Needs.{needs}
-use Rattle.recording.proofs.plans.with_meters.Statement.{statement}
-use Rattle.recording.proofs.plans.with_meters.Tie as tie
+use Rattle.recording.proofs.recorded.with_meters.Statement.{statement}
+use Rattle.recording.proofs.recorded.with_meters.Tie as tie
 
 enum-known-answer : tie.Need-enum-known-answer
 enum-known-answer c = search needs

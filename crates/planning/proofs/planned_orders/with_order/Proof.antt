@@ -1,12 +1,12 @@
 -- Each case of the answer has its own case of the definition.
 use mathlib.Core.Path.{sym, ap}
 use Rattle.terms.specs.Answer.{onFigures}
-use Rattle.series.specs.declared.plans.SeriesAnswer.{SeriesAnswer}
+use Rattle.series.specs.declared.answers.SeriesAnswer.{SeriesAnswer}
 use Rattle.series.specs.Series.{seriesSays}
 use Rattle.planning.specs.CallLaws.{withOrder}
 use borrow.Author.Needs.{needs}
-use Rattle.planning.proofs.orders.with_order.Statement.{statement}
-use Rattle.planning.proofs.orders.with_order.Tie as tie
+use Rattle.planning.proofs.planned_orders.with_order.Statement.{statement}
+use Rattle.planning.proofs.planned_orders.with_order.Tie as tie
 
 enum-known-answer : tie.Need-enum-known-answer
 enum-known-answer c = search needs
