@@ -32,11 +32,11 @@ class Caller:
     LENDS = True                            # whether it lends its `&mut` slices to calls
 
     def __init__(self, crate, name, comment, params, types, calls, ensures=None, requires=None, uses=(),
-                 inner='', inits='zeros', start=(), fronts=None):
+                 inner='', fronts=None):
         self.crate, self.mods, self.name, self.comment = crate, name.split('.'), name.split('.')[-1], comment
         self.types, self.rows, self.calls, self.ensures = Types(types), types, calls, ensures
         self.own_uses, self.inner, self.param_names, self.requires = list(uses), inner, params, requires
-        self.inits, self.start, self.fronts = inits, list(start), fronts or {}
+        self.fronts = fronts or {}
 
     def read(self):
         """The function as the MIR has it, and its frame."""
@@ -80,7 +80,7 @@ class Caller:
         self.w = Walk(begin, self.n)
         self.w.live = {p.local for p in self.params}
         self.todo = list(self.calls)
-        self.lemma = Lemma('starting' if self.arrays.of else self.next_name(), 1, self.items(begin))
+        self.lemma = Lemma(self.next_name(), 1, self.items(begin))
         self.lemmas.append(self.lemma)
         self.statements()
 
@@ -88,16 +88,7 @@ class Caller:
         return self.todo[0].verb if self.todo else 'ending'
 
     def statements(self):
-        started = not self.arrays.of
         for i, s in enumerate(self.body):
-            if self.arrays.begins(s):
-                self.arrays.begin(s)
-                continue
-            if not started and not any(self.arrays.begins(x) for x in self.body[i:]):
-                started = True
-                self.arrays.name_lists()
-                self.forget_old(i)
-                self.cut(self.next_name(), i + 1)
             if s == mir.RETURN:
                 self.end()
             elif isinstance(s, mir.Called):
@@ -169,6 +160,7 @@ class Caller:
 
     def address(self, k, value):
         if not value.steps:
+            self.arrays.lent(value.local)
             self.w.put(k, '(addr ! (from ! (stop !)))', '(tt, tt)')
             self.val[k], self.mean[k] = '(vptr %s 0)' % self.at(value.local), To(value.local)
             return
@@ -256,7 +248,7 @@ class Caller:
 
     def text(self):
         (walk, first), f = self.walk_text(), self.frame
-        out = f.stayed() + self.arrays.lemmas() + f.contracts() + f.opened() + self.arrays.typed() + f.names()
+        out = f.stayed() + self.arrays.lemmas() + f.contracts() + f.opened() + f.names()
         if self.inner:
             out += ['  ' + line if line else '' for line in self.inner.strip('\n').split('\n')] + ['']
         out += f.calling() + f.locals(self.local_types) + walk + f.walk(first, self.n)

@@ -115,8 +115,8 @@ class Lending:
         if a.fits:
             over = '%s %s %s' % (γ, par(a.count), par(a.whole)) if mut else '%s %s' % (par(a.count), par(a.whole))
             return 'Owed%s 𝓤 H A W %s %s %s' % (a.ref.capitalize(), where, a.lft, over)
-        held = 'Held %s 0 %s' % (where, γ) if mut else self.c.arrays.elems(a.row, a.size, a.array, a.old)
-        return 'flent %s (%s)' % (a.lft, held)
+        assert mut, 'a whole array is lent by `&mut`'
+        return 'flent %s (Held %s 0 %s)' % (a.lft, where, γ)
 
     def copied(self, a):
         """A shared slice of the caller's: the call has a copy."""
@@ -221,10 +221,11 @@ class Lending:
 
     def old_long(self, a):
         """That what was lent has the length that the slice says."""
+        long = self.c.arrays.long[a.array]
         if not a.fits:
-            return a.old + '-long'
+            return long
         n, whole = par(a.count), par(a.whole)
-        return 'length-take-le %s %s (subst (λ (m : ℕ). %s ≤ m) (sym %s-long) %s)' % (n, whole, n, a.whole, par(a.fits))
+        return 'length-take-le %s %s (subst (λ (m : ℕ). %s ≤ m) (sym %s) %s)' % (n, whole, n, long, par(a.fits))
 
     def landed(self):
         """The result is stored; what was learnt is in scope from the next lemma on."""
@@ -257,6 +258,8 @@ class Lending:
                                               'LL.owes %s (LL.owed %s (%s ∷ []) %s)' % (at, at, v, known))]
         elif res is not UNIT:
             c.fresh += [(out, res.den, out), (v, 'Val', v), (known, 'Is %s %s (%s ∷ [])' % (res.row, out, v), known)]
+            if res.of:
+                c.fresh.append((out + '-long', 'length %s ≡ %d' % (out, res.of[1]), known + ' .1 .0 .1'))
         c.val[to], c.mean[to] = m.v, m
         c.fresh += [(n, 'List ' + self.args[i].row.den, c.cur[n]) for i, n in self.new.items()] + self.longs
         c.fresh += [(n, t.replace('@', ''), n) for n, t in self.call.ens]
@@ -278,10 +281,7 @@ class Lending:
             rule = 'front-back-%s %s %s %s' % (a.ref, where, over, par(a.fits))
         else:
             rule = 'mut-back %s γ′%s %s' % (where, a.i, new)
-        if new or a.fits:
-            w.emit('use%d W (later (‵ (%s))) (%s) $ await ! tt $' % (len(parts), elems, rule))
-        else:
-            w.emit('lent-back ! tt $')
+        w.emit('use%d W (later (‵ (%s))) (%s) $ await ! tt $' % (len(parts), elems, rule))
         w.head(len(parts), 'E%d' % k)
-        c.arrays.lists[k], c.entries['E%d' % k] = xs, elems
+        c.arrays.lists[k], c.arrays.long[k], c.entries['E%d' % k] = xs, '%s-long' % new, elems
         c.dead |= {'α' + a.i, 'γ′' + a.i}

@@ -9,12 +9,11 @@ ROOT = os.path.dirname(os.path.dirname(os.path.dirname(os.path.abspath(__file__)
 
 # Two numbers, the locals' types, the types of each struct's fields by its path, the body.
 Function = namedtuple('Function', 'lifetimes params locals fields body')
-Assign = namedtuple('Assign', 'to value')                            # a local and one of the next five
+Assign = namedtuple('Assign', 'to value')                            # a local and one of the next four
 Lit = namedtuple('Lit', 'width value')
 Copy = namedtuple('Copy', 'local fields')
 Addr = namedtuple('Addr', 'local steps')
 Built = namedtuple('Built', 'parts')
-Repeat = namedtuple('Repeat', 'item')
 Called = namedtuple('Called', 'name args to')
 RETURN = 'return'
 
@@ -75,8 +74,6 @@ def value(x):
         return Addr(int(x[1][1]), items(x[1][2]))
     if x[0] == 'aggregate':
         return Built([operand(part) for parts in x[1:] for part in items(parts)])
-    if x[0] == 'repeat':
-        return Repeat(operand(x[1]))
     raise SystemExit('%s is not covered' % x)
 
 
@@ -106,5 +103,4 @@ def reads(s):
     if s == RETURN:
         return set()
     xs = s.args if isinstance(s, Called) else s.value.parts if isinstance(s.value, Built) else [s.value]
-    xs = [x.item if isinstance(x, Repeat) else x for x in xs]
     return {x.local for x in xs if not isinstance(x, Lit)}

@@ -2,10 +2,7 @@
 // shows what is required.
 use booking::BookingAnswer;
 use booking::book;
-use terms::Bucket;
-use terms::BucketRecord;
-use terms::Depth;
-use terms::Rate;
+use record_list::arrays::blank_records;
 use terms::limits::TRACE_LIMIT;
 ghost use Prim.Native.Nat.{_≤_};
 ghost use lib.ListN.{length};
@@ -19,15 +16,13 @@ pub fn book_file(order: &[u8], bytes: &mut [u8]) -> BookingAnswer
     requires { ⌜ longestPlan ≤ length (now bytes) ⌝ }
     ensures { λ r. ⌜ BooksFile (now (order .entry)) (now (bytes .entry)) (now (bytes .exit)) (bookingSays r) ⌝ }
 {
-    let none = BucketRecord {
-        periods: 0,
-        bucket: Bucket {
-            rate: Rate(0),
-            depth: Depth(0),
-        },
-    };
-    let mut demands = [0u16; TRACE_LIMIT];
-    let mut plan = [none; TRACE_LIMIT];
-    let mut back = [none; TRACE_LIMIT];
+    let mut demands = blank_demands();
+    let mut plan = blank_records();
+    let mut back = blank_records();
     book(order, &mut demands, &mut plan, bytes, &mut back)
+}
+
+// As many demands of zero as the longest trace has periods.
+fn blank_demands() -> [u16; TRACE_LIMIT] {
+    [0; TRACE_LIMIT]
 }

@@ -333,13 +333,13 @@ module _ {M : Type 1} (𝓤 : URA M) (H : Heap 𝓤) (A : Atoms 𝓤) (W : Given
             MutSlice (named 4) (α₂ ∷ []) T.the-row ∷ []) (to-booking .0 .3) (to-booking .0 .4)) ∷ []) ∵
             join ! $ frame ! $ nothing ! $ done !
 
-      booking : Sq W (‵ (Elems 𝓤 H A W T.the-row 516 l₉ back) ∷ ‵ (Elems 𝓤 H A W T.the-row 516 l₈ plan) ∷ ‵ (ShrSlice (named 0) κ₀ u8 .own x₀ (s₀ ∷ [])) ∷
-          ‵ (MutSlice (named 1) κ₁ u16 .own x₁ (s₁ ∷ [])) ∷ ‵ (MutSlice (named 2) κ₂ u8 .own x₂ (s₂ ∷ [])) ∷ ‵ (flft κ₀ q₀) ∷ ‵ (flft κ₁ q₁) ∷ ‵ (flft κ₂ q₂) ∷
-          ‵ (froom S′.mir l₀ 0) ∷ ‵ (fat fullShare (sliceTy (tyRef (named 0) imm (tyInt w8))) l₁ 0 s₀) ∷ ‵ (fat fullShare (sliceTy (tyRef (named 1)
-          mut (tyInt w16))) l₂ 0 s₁) ∷ ‵ (froom (tyArray T′.mir 516) l₃ 0) ∷ ‵ (fat fullShare (tyInt w64) l₄ 0 (vint w64 planned)) ∷
-          ‵ (fat fullShare (sliceTy (tyRef (named 2) mut (tyInt w8))) l₅ 0 s₂) ∷ ‵ (froom (tyArray T′.mir 516) l₆ 0) ∷ ‵ (fat fullShare (tyInt w64)
-          l₇ 0 (vint w64 read)) ∷ ‵ (froom F′.mir l₁₀ 0) ∷ ‵ (froom (tyRef erased mut (tyInt w16)) l₁₁ 0) ∷ ‵ (froom (sliceTy (tyRef erased mut (tyInt w16)))
-          l₁₂ 0) ∷ ‵ (froom (tyRef erased mut (pointee (Array T.the-row 516 .written))) l₁₃ 0) ∷
+      booking : Sq W (‵ (ShrSlice (named 0) κ₀ u8 .own x₀ (s₀ ∷ [])) ∷ ‵ (MutSlice (named 1) κ₁ u16 .own x₁ (s₁ ∷ [])) ∷ ‵ (MutSlice (named 2)
+          κ₂ u8 .own x₂ (s₂ ∷ [])) ∷ ‵ (flft κ₀ q₀) ∷ ‵ (flft κ₁ q₁) ∷ ‵ (flft κ₂ q₂) ∷ ‵ (froom S′.mir l₀ 0) ∷ ‵ (fat fullShare (sliceTy (tyRef (named 0)
+          imm (tyInt w8))) l₁ 0 s₀) ∷ ‵ (fat fullShare (sliceTy (tyRef (named 1) mut (tyInt w16))) l₂ 0 s₁) ∷ ‵ (fat fullShare (tyArray T′.mir 516)
+          l₃ 0 plan-val) ∷ ‵ (fat fullShare (tyInt w64) l₄ 0 (vint w64 planned)) ∷ ‵ (fat fullShare (sliceTy (tyRef (named 2) mut (tyInt w8))) l₅ 0 s₂) ∷
+          ‵ (fat fullShare (tyArray T′.mir 516) l₆ 0 back-val) ∷ ‵ (fat fullShare (tyInt w64) l₇ 0 (vint w64 read)) ∷ ‵ (froom (tyArray T′.mir 516) l₈ 0) ∷
+          ‵ (froom (tyArray T′.mir 516) l₉ 0) ∷ ‵ (froom F′.mir l₁₀ 0) ∷ ‵ (froom (tyRef erased mut (tyInt w16)) l₁₁ 0) ∷
+          ‵ (froom (sliceTy (tyRef erased mut (tyInt w16))) l₁₂ 0) ∷ ‵ (froom (tyRef erased mut (pointee (Array T.the-row 516 .written))) l₁₃ 0) ∷
           ‵ (froom (sliceTy (tyRef erased mut (pointee (T.the-row .written)))) l₁₄ 0) ∷ ‵ (froom (tyRef erased mut (tyInt w8)) l₁₅ 0) ∷
           ‵ (froom (sliceTy (tyRef erased mut (tyInt w8))) l₁₆ 0) ∷ ‵ (froom (tyRef erased mut (pointee (Array T.the-row 516 .written))) l₁₇ 0) ∷
           ‵ (froom (sliceTy (tyRef erased mut (pointee (T.the-row .written)))) l₁₈ 0) ∷ ‵ (froom (tyArray T′.mir 516) l₁₉ 0) ∷ ‵ (froom (tyArray T′.mir 516)
@@ -350,17 +350,29 @@ module _ {M : Type 1} (𝓤 : URA M) (H : Heap 𝓤) (A : Atoms 𝓤) (W : Given
           ‵ (fdies (tyRef erased mut (pointee (Array T.the-row 516 .written))) l₁₃) ∷ ‵ (fdies (sliceTy (tyRef erased mut (pointee (T.the-row .written)))) l₁₄)
           ∷ ‵ (fdies (tyRef erased mut (tyInt w8)) l₁₅) ∷ ‵ (fdies (sliceTy (tyRef erased mut (tyInt w8))) l₁₆) ∷
           ‵ (fdies (tyRef erased mut (pointee (Array T.the-row 516 .written))) l₁₇) ∷ ‵ (fdies (sliceTy (tyRef erased mut (pointee (T.the-row .written)))) l₁₈)
-          ∷ ‵ (fdies (tyArray T′.mir 516) l₁₉) ∷ ‵ (fdies (tyArray T′.mir 516) l₂₀) ∷ []) (runs C Λ E mir.t-3 (atRet E Post))
+          ∷ ‵ (fdies (tyArray T′.mir 516) l₁₉) ∷ ‵ (fdies (tyArray T′.mir 516) l₂₀) ∷ []) (runs C Λ E mir.t-1 (atRet E Post))
       booking =
-          assigns ! (addr ! (from ! (fld ! refl (hop ! (look-in ! 10 (sub ! 0 refl (whole !))) (stop !))))) (from ! (stop !)) (init ! 17 refl (tt, tt)) $
+          assigns ! (of-opd ! (load ! (from ! (stop !)) (look ! 9 refl))) (from ! (stop !))
+          (init ! 14 refl ((array-lawful 𝓤 H A W T.the-row (LL.lawful T.the-type T′.the-laws 𝓤 H A W) 516) .typed plan (plan-val ∷ []) plan-is .0)) $
+          assigns ! (of-opd ! (load ! (from ! (stop !)) (look ! 12 refl))) (from ! (stop !))
+          (init ! 15 refl ((array-lawful 𝓤 H A W T.the-row (LL.lawful T.the-type T′.the-laws 𝓤 H A W) 516) .typed back (back-val ∷ []) back-is .0)) $
+          assigns ! (addr ! (from ! (fld ! refl (hop ! (look-in ! 8 (sub ! 0 refl (whole !))) (stop !))))) (from ! (stop !)) (init ! 17 refl (tt, tt)) $
           assigns ! (agg ! (and-then ! (load ! (from ! (stop !)) (look ! 17 refl)) (and-then ! (load ! (from ! (fld ! refl (stop !)))
-          (look-in ! 10 (sub ! 1 refl (whole !)))) (no-more !)))) (from ! (stop !)) (init ! 18 refl (tt, (tt, (record { fits = room₁ .0 }, tt)))) $
+          (look-in ! 8 (sub ! 1 refl (whole !)))) (no-more !)))) (from ! (stop !)) (init ! 18 refl (tt, (tt, (record { fits = room₁ .0 }, tt)))) $
+          move ! (14 ∷ []) $
+          owned ! (Array T.the-row 516) (Is (Array T.the-row 516)) (array-makes 𝓤 H A W T.the-row (LL.makes T.the-type T′.the-plain 𝓤 H A) 516)
+          plan (plan-val ∷ []) plan-is $
+          move ! (1 ∷ 0 ∷ []) $ use2 W (‵ (Elems 𝓤 H A W T.the-row 516 l₈ plan)) (array-in 𝓤 H A W T.the-row 516 l₈ tt plan plan-val) $
           assigns ! (addr ! (from ! (stop !))) (from ! (stop !)) (init ! 19 refl (tt, tt)) $
-          assigns ! (agg ! (and-then ! (load ! (from ! (stop !)) (look ! 19 refl)) (and-then ! (load ! (from ! (stop !)) (look ! 12 refl)) (no-more !))))
+          assigns ! (agg ! (and-then ! (load ! (from ! (stop !)) (look ! 19 refl)) (and-then ! (load ! (from ! (stop !)) (look ! 11 refl)) (no-more !))))
           (from ! (stop !)) (init ! 20 refl (tt, (tt, (record { fits = planned-fits }, tt)))) $
-          assigns ! (addr ! (from ! (fld ! refl (hop ! (look-in ! 13 (sub ! 0 refl (whole !))) (stop !))))) (from ! (stop !)) (init ! 21 refl (tt, tt)) $
+          assigns ! (addr ! (from ! (fld ! refl (hop ! (look-in ! 12 (sub ! 0 refl (whole !))) (stop !))))) (from ! (stop !)) (init ! 21 refl (tt, tt)) $
           assigns ! (agg ! (and-then ! (load ! (from ! (stop !)) (look ! 21 refl)) (and-then ! (load ! (from ! (fld ! refl (stop !)))
-          (look-in ! 13 (sub ! 1 refl (whole !)))) (no-more !)))) (from ! (stop !)) (init ! 22 refl (tt, (tt, (record { fits = room₂ .0 }, tt)))) $
+          (look-in ! 12 (sub ! 1 refl (whole !)))) (no-more !)))) (from ! (stop !)) (init ! 22 refl (tt, (tt, (record { fits = room₂ .0 }, tt)))) $
+          move ! (15 ∷ []) $
+          owned ! (Array T.the-row 516) (Is (Array T.the-row 516)) (array-makes 𝓤 H A W T.the-row (LL.makes T.the-type T′.the-plain 𝓤 H A) 516)
+          back (back-val ∷ []) back-is $
+          move ! (1 ∷ 0 ∷ []) $ use2 W (‵ (Elems 𝓤 H A W T.the-row 516 l₉ back)) (array-in 𝓤 H A W T.the-row 516 l₉ tt back back-val) $
           assigns ! (addr ! (from ! (stop !))) (from ! (stop !)) (init ! 23 refl (tt, tt)) $
           assigns ! (agg ! (and-then ! (load ! (from ! (stop !)) (look ! 23 refl)) (and-then ! (load ! (from ! (stop !)) (look ! 15 refl)) (no-more !))))
           (from ! (stop !)) (init ! 24 refl (tt, (tt, (record { fits = read-fits }, tt)))) $
@@ -479,44 +491,11 @@ module _ {M : Type 1} (𝓤 : URA M) (H : Heap 𝓤) (A : Atoms 𝓤) (W : Given
           split ! $ move ! (1 ∷ []) $ split ! $ move ! (1 ∷ []) $ split ! $ move ! (1 ∷ []) $ split ! $ move ! (1 ∷ []) $ split ! $ move ! (1 ∷ []) $
           drop ! $
           land ! (from ! (stop !)) (init ! 20 refl ((EL.lawful F.the-type F′.the-laws 𝓤 H A W tt) .typed answer (answer-val ∷ []) answer-is .0)) $
-          forget ! 13 refl $ forget ! 14 refl $ forget ! 16 refl $ forget ! 17 refl $ forget ! 19 refl $ forget ! 21 refl $ forget ! 22 refl $
-          forget ! 23 refl $ forget ! 24 refl $ forget ! 25 refl $ forget ! 26 refl $ forget ! 27 refl $ forget ! 28 refl $
+          forget ! 13 refl $ forget ! 14 refl $ forget ! 15 refl $ forget ! 16 refl $ forget ! 17 refl $ forget ! 18 refl $ forget ! 19 refl $
+          forget ! 21 refl $ forget ! 22 refl $ forget ! 23 refl $ forget ! 24 refl $ forget ! 25 refl $ forget ! 26 refl $ forget ! 27 refl $
+          forget ! 28 refl $
           ending α₁ α₂ γ′₁ γ′₂ answer answer-val answer-is (last .1 .0) (last .1 .1 .0) (last .1 .1 .1 .0) (last .1 .1 .1 .1 .0)
           spread-long file-long))))))))))))
-
-      starting : Sq W (‵ (ShrSlice (named 0) κ₀ u8 .own x₀ (s₀ ∷ [])) ∷ ‵ (MutSlice (named 1) κ₁ u16 .own x₁ (s₁ ∷ [])) ∷ ‵ (MutSlice (named 2)
-          κ₂ u8 .own x₂ (s₂ ∷ [])) ∷ ‵ (flft κ₀ q₀) ∷ ‵ (flft κ₁ q₁) ∷ ‵ (flft κ₂ q₂) ∷ ‵ (froom S′.mir l₀ 0) ∷ ‵ (fat fullShare (sliceTy (tyRef (named 0)
-          imm (tyInt w8))) l₁ 0 s₀) ∷ ‵ (fat fullShare (sliceTy (tyRef (named 1) mut (tyInt w16))) l₂ 0 s₁) ∷ ‵ (fat fullShare (tyArray T′.mir 516)
-          l₃ 0 plan-val) ∷ ‵ (fat fullShare (tyInt w64) l₄ 0 (vint w64 planned)) ∷ ‵ (fat fullShare (sliceTy (tyRef (named 2) mut (tyInt w8))) l₅ 0 s₂) ∷
-          ‵ (fat fullShare (tyArray T′.mir 516) l₆ 0 back-val) ∷ ‵ (fat fullShare (tyInt w64) l₇ 0 (vint w64 read)) ∷ ‵ (froom (tyArray T′.mir 516) l₈ 0) ∷
-          ‵ (froom (tyArray T′.mir 516) l₉ 0) ∷ ‵ (froom F′.mir l₁₀ 0) ∷ ‵ (froom (tyRef erased mut (tyInt w16)) l₁₁ 0) ∷
-          ‵ (froom (sliceTy (tyRef erased mut (tyInt w16))) l₁₂ 0) ∷ ‵ (froom (tyRef erased mut (pointee (Array T.the-row 516 .written))) l₁₃ 0) ∷
-          ‵ (froom (sliceTy (tyRef erased mut (pointee (T.the-row .written)))) l₁₄ 0) ∷ ‵ (froom (tyRef erased mut (tyInt w8)) l₁₅ 0) ∷
-          ‵ (froom (sliceTy (tyRef erased mut (tyInt w8))) l₁₆ 0) ∷ ‵ (froom (tyRef erased mut (pointee (Array T.the-row 516 .written))) l₁₇ 0) ∷
-          ‵ (froom (sliceTy (tyRef erased mut (pointee (T.the-row .written)))) l₁₈ 0) ∷ ‵ (froom (tyArray T′.mir 516) l₁₉ 0) ∷ ‵ (froom (tyArray T′.mir 516)
-          l₂₀ 0) ∷ ‵ (fdies S′.mir l₀) ∷ ‵ (fdies (sliceTy (tyRef (named 0) imm (tyInt w8))) l₁) ∷ ‵ (fdies (sliceTy (tyRef (named 1) mut (tyInt w16))) l₂) ∷
-          ‵ (fdies (tyArray T′.mir 516) l₃) ∷ ‵ (fdies (tyInt w64) l₄) ∷ ‵ (fdies (sliceTy (tyRef (named 2) mut (tyInt w8))) l₅) ∷
-          ‵ (fdies (tyArray T′.mir 516) l₆) ∷ ‵ (fdies (tyInt w64) l₇) ∷ ‵ (fdies (tyArray T′.mir 516) l₈) ∷ ‵ (fdies (tyArray T′.mir 516) l₉) ∷
-          ‵ (fdies F′.mir l₁₀) ∷ ‵ (fdies (tyRef erased mut (tyInt w16)) l₁₁) ∷ ‵ (fdies (sliceTy (tyRef erased mut (tyInt w16))) l₁₂) ∷
-          ‵ (fdies (tyRef erased mut (pointee (Array T.the-row 516 .written))) l₁₃) ∷ ‵ (fdies (sliceTy (tyRef erased mut (pointee (T.the-row .written)))) l₁₄)
-          ∷ ‵ (fdies (tyRef erased mut (tyInt w8)) l₁₅) ∷ ‵ (fdies (sliceTy (tyRef erased mut (tyInt w8))) l₁₆) ∷
-          ‵ (fdies (tyRef erased mut (pointee (Array T.the-row 516 .written))) l₁₇) ∷ ‵ (fdies (sliceTy (tyRef erased mut (pointee (T.the-row .written)))) l₁₈)
-          ∷ ‵ (fdies (tyArray T′.mir 516) l₁₉) ∷ ‵ (fdies (tyArray T′.mir 516) l₂₀) ∷ []) (runs C Λ E mir.t-1 (atRet E Post))
-      starting =
-          assigns ! (of-opd ! (load ! (from ! (stop !)) (look ! 9 refl))) (from ! (stop !))
-          (init ! 14 refl ((array-lawful 𝓤 H A W T.the-row (LL.lawful T.the-type T′.the-laws 𝓤 H A W) 516) .typed plan (plan-val ∷ []) plan-is .0)) $
-          move ! (14 ∷ []) $
-          owned ! (Array T.the-row 516) (Is (Array T.the-row 516)) (array-makes 𝓤 H A W T.the-row (LL.makes T.the-type T′.the-plain 𝓤 H A) 516)
-          plan (plan-val ∷ []) plan-is $
-          move ! (1 ∷ 0 ∷ []) $ use2 W (‵ (Elems 𝓤 H A W T.the-row 516 l₈ plan)) (array-in 𝓤 H A W T.the-row 516 l₈ tt plan plan-val) $
-          assigns ! (of-opd ! (load ! (from ! (stop !)) (look ! 13 refl))) (from ! (stop !))
-          (init ! 15 refl ((array-lawful 𝓤 H A W T.the-row (LL.lawful T.the-type T′.the-laws 𝓤 H A W) 516) .typed back (back-val ∷ []) back-is .0)) $
-          move ! (15 ∷ []) $
-          owned ! (Array T.the-row 516) (Is (Array T.the-row 516)) (array-makes 𝓤 H A W T.the-row (LL.makes T.the-type T′.the-plain 𝓤 H A) 516)
-          back (back-val ∷ []) back-is $
-          move ! (1 ∷ 0 ∷ []) $ use2 W (‵ (Elems 𝓤 H A W T.the-row 516 l₉ back)) (array-in 𝓤 H A W T.the-row 516 l₉ tt back back-val) $
-          forget ! 11 refl $ forget ! 14 refl $
-          booking
 
     walk : ent 𝓤 (onEntry 𝓤 H A self.signature (κ₀, (κ₁, (κ₂, tt))) (q₀, (q₁, (q₂, tt))) a vals) (WpFn 𝓤 H C Λ code.function (s₀ ∷ s₁ ∷ plan-val ∷
         vint w64 planned ∷ s₂ ∷ back-val ∷ vint w64 read ∷ []) Post)
@@ -536,7 +515,7 @@ module _ {M : Type 1} (𝓤 : URA M) (H : Heap 𝓤) (A : Atoms 𝓤) (W : Given
         pass1 ! (init ! 26 refl ((uint-lawful 𝓤 H A W w64) .typed read ((vint w64 read) ∷ []) (refl, read-fits) .0)) $ pass0 ! $
         keep ! (44 ∷ 43 ∷ 42 ∷ 47 ∷ 46 ∷ 45 ∷ 40 ∷ 38 ∷ 36 ∷ 34 ∷ 32 ∷ 30 ∷ 28 ∷ 26 ∷ 24 ∷ 22 ∷ 20 ∷ 18 ∷ 16 ∷ 14 ∷ 12 ∷ 10 ∷ 8 ∷ 6 ∷ 4 ∷ 2 ∷ 0 ∷ 41 ∷ 39 ∷
         37 ∷ 35 ∷ 33 ∷ 31 ∷ 29 ∷ 27 ∷ 25 ∷ 23 ∷ 21 ∷ 19 ∷ 17 ∷ 15 ∷ 13 ∷ 11 ∷ 9 ∷ 7 ∷ 5 ∷ 3 ∷ 1 ∷ []) $
-        starting l₀ l₁ l₂ l₃ l₄ l₅ l₆ l₇ l₈ l₉ l₁₀ l₁₁ l₁₂ l₁₃ l₁₄ l₁₅ l₁₆ l₁₇ l₁₈ l₁₉ l₂₀)))))))))))))))))))))
+        booking l₀ l₁ l₂ l₃ l₄ l₅ l₆ l₇ l₈ l₉ l₁₀ l₁₁ l₁₂ l₁₃ l₁₄ l₁₅ l₁₆ l₁₇ l₁₈ l₁₉ l₂₀)))))))))))))))))))))
 
 module _ {M : Type 1} (𝓤 : URA M) (H : Heap 𝓤) (A : Atoms 𝓤) (W : Given 𝓤 H A) (at-mem : Memory → SProp 𝓤) (run : Routine → Fun 𝓤) where
   walks : (𝓣 : Tables 𝓤 H) → Triple 𝓤 (𝓣 .C #book) (Book 𝓤 H A at-mem run)

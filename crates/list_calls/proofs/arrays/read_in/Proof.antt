@@ -199,14 +199,20 @@ module _ {M : Type 1} (𝓤 : URA M) (H : Heap 𝓤) (A : Atoms 𝓤) (W : Given
             (to-reading .0 .3) (to-reading .0 .4)) ∷ []) ∵
             join ! $ frame ! $ nothing ! $ done !
 
-      reading : Sq W (‵ (Elems 𝓤 H A W T.the-row 516 l₄ list) ∷ ‵ (ShrSlice (named 0) κ₀ u8 .own x₀ (s₀ ∷ [])) ∷ ‵ (flft κ₀ q₀) ∷ ‵ (froom S′.mir l₀ 0) ∷
-          ‵ (fat fullShare (sliceTy (tyRef (named 0) imm (tyInt w8))) l₁ 0 s₀) ∷ ‵ (froom (tyArray T′.mir 516) l₂ 0) ∷ ‵ (fat fullShare (tyInt w64)
-          l₃ 0 (vint w64 entries)) ∷ ‵ (froom F′.mir l₅ 0) ∷ ‵ (froom (tyRef erased mut (pointee (Array T.the-row 516 .written))) l₆ 0) ∷
+      reading : Sq W (‵ (ShrSlice (named 0) κ₀ u8 .own x₀ (s₀ ∷ [])) ∷ ‵ (flft κ₀ q₀) ∷ ‵ (froom S′.mir l₀ 0) ∷ ‵ (fat fullShare (sliceTy (tyRef (named 0)
+          imm (tyInt w8))) l₁ 0 s₀) ∷ ‵ (fat fullShare (tyArray T′.mir 516) l₂ 0 list-val) ∷ ‵ (fat fullShare (tyInt w64) l₃ 0 (vint w64 entries)) ∷
+          ‵ (froom (tyArray T′.mir 516) l₄ 0) ∷ ‵ (froom F′.mir l₅ 0) ∷ ‵ (froom (tyRef erased mut (pointee (Array T.the-row 516 .written))) l₆ 0) ∷
           ‵ (froom (sliceTy (tyRef erased mut (pointee (T.the-row .written)))) l₇ 0) ∷ ‵ (froom (tyArray T′.mir 516) l₈ 0) ∷ ‵ (fdies S′.mir l₀) ∷
           ‵ (fdies (sliceTy (tyRef (named 0) imm (tyInt w8))) l₁) ∷ ‵ (fdies (tyArray T′.mir 516) l₂) ∷ ‵ (fdies (tyInt w64) l₃) ∷
           ‵ (fdies (tyArray T′.mir 516) l₄) ∷ ‵ (fdies F′.mir l₅) ∷ ‵ (fdies (tyRef erased mut (pointee (Array T.the-row 516 .written))) l₆) ∷
-          ‵ (fdies (sliceTy (tyRef erased mut (pointee (T.the-row .written)))) l₇) ∷ ‵ (fdies (tyArray T′.mir 516) l₈) ∷ []) (runs C Λ E mir.t-2 (atRet E Post))
+          ‵ (fdies (sliceTy (tyRef erased mut (pointee (T.the-row .written)))) l₇) ∷ ‵ (fdies (tyArray T′.mir 516) l₈) ∷ []) (runs C Λ E mir.t-1 (atRet E Post))
       reading =
+          assigns ! (of-opd ! (load ! (from ! (stop !)) (look ! 4 refl))) (from ! (stop !))
+          (init ! 6 refl ((array-lawful 𝓤 H A W T.the-row (LL.lawful T.the-type T′.the-laws 𝓤 H A W) 516) .typed list (list-val ∷ []) list-is .0)) $
+          move ! (6 ∷ []) $
+          owned ! (Array T.the-row 516) (Is (Array T.the-row 516)) (array-makes 𝓤 H A W T.the-row (LL.makes T.the-type T′.the-plain 𝓤 H A) 516)
+          list (list-val ∷ []) list-is $
+          move ! (1 ∷ 0 ∷ []) $ use2 W (‵ (Elems 𝓤 H A W T.the-row 516 l₄ list)) (array-in 𝓤 H A W T.the-row 516 l₄ tt list list-val) $
           assigns ! (addr ! (from ! (stop !))) (from ! (stop !)) (init ! 8 refl (tt, tt)) $
           assigns ! (agg ! (and-then ! (load ! (from ! (stop !)) (look ! 8 refl)) (and-then ! (load ! (from ! (stop !)) (look ! 6 refl)) (no-more !))))
           (from ! (stop !)) (init ! 9 refl (tt, (tt, (record { fits = entries-fits }, tt)))) $
@@ -250,25 +256,8 @@ module _ {M : Type 1} (𝓤 : URA M) (H : Heap 𝓤) (A : Atoms 𝓤) (W : Given
           facts ! F.the-row (Is F.the-row) (shows 𝓤 H A F.the-row) answer (answer-val ∷ []) (λ answer-is. split ! $ move ! (1 ∷ []) $ split ! $
           move ! (1 ∷ []) $ drop ! $
           land ! (from ! (stop !)) (init ! 9 refl ((EL.lawful F.the-type F′.the-laws 𝓤 H A W tt) .typed answer (answer-val ∷ []) answer-is .0)) $
-          forget ! 6 refl $ forget ! 8 refl $ forget ! 10 refl $ forget ! 11 refl $
+          forget ! 6 refl $ forget ! 7 refl $ forget ! 8 refl $ forget ! 10 refl $ forget ! 11 refl $
           ending α₁ γ′₁ answer answer-val answer-is (last .1 .0))))))))
-
-      starting : Sq W (‵ (ShrSlice (named 0) κ₀ u8 .own x₀ (s₀ ∷ [])) ∷ ‵ (flft κ₀ q₀) ∷ ‵ (froom S′.mir l₀ 0) ∷ ‵ (fat fullShare (sliceTy (tyRef (named 0)
-          imm (tyInt w8))) l₁ 0 s₀) ∷ ‵ (fat fullShare (tyArray T′.mir 516) l₂ 0 list-val) ∷ ‵ (fat fullShare (tyInt w64) l₃ 0 (vint w64 entries)) ∷
-          ‵ (froom (tyArray T′.mir 516) l₄ 0) ∷ ‵ (froom F′.mir l₅ 0) ∷ ‵ (froom (tyRef erased mut (pointee (Array T.the-row 516 .written))) l₆ 0) ∷
-          ‵ (froom (sliceTy (tyRef erased mut (pointee (T.the-row .written)))) l₇ 0) ∷ ‵ (froom (tyArray T′.mir 516) l₈ 0) ∷ ‵ (fdies S′.mir l₀) ∷
-          ‵ (fdies (sliceTy (tyRef (named 0) imm (tyInt w8))) l₁) ∷ ‵ (fdies (tyArray T′.mir 516) l₂) ∷ ‵ (fdies (tyInt w64) l₃) ∷
-          ‵ (fdies (tyArray T′.mir 516) l₄) ∷ ‵ (fdies F′.mir l₅) ∷ ‵ (fdies (tyRef erased mut (pointee (Array T.the-row 516 .written))) l₆) ∷
-          ‵ (fdies (sliceTy (tyRef erased mut (pointee (T.the-row .written)))) l₇) ∷ ‵ (fdies (tyArray T′.mir 516) l₈) ∷ []) (runs C Λ E mir.t-1 (atRet E Post))
-      starting =
-          assigns ! (of-opd ! (load ! (from ! (stop !)) (look ! 4 refl))) (from ! (stop !))
-          (init ! 6 refl ((array-lawful 𝓤 H A W T.the-row (LL.lawful T.the-type T′.the-laws 𝓤 H A W) 516) .typed list (list-val ∷ []) list-is .0)) $
-          move ! (6 ∷ []) $
-          owned ! (Array T.the-row 516) (Is (Array T.the-row 516)) (array-makes 𝓤 H A W T.the-row (LL.makes T.the-type T′.the-plain 𝓤 H A) 516)
-          list (list-val ∷ []) list-is $
-          move ! (1 ∷ 0 ∷ []) $ use2 W (‵ (Elems 𝓤 H A W T.the-row 516 l₄ list)) (array-in 𝓤 H A W T.the-row 516 l₄ tt list list-val) $
-          forget ! 5 refl $
-          reading
 
     walk : ent 𝓤 (onEntry 𝓤 H A self.signature (κ₀, tt) (q₀, tt) a vals) (WpFn 𝓤 H C Λ code.function (s₀ ∷ list-val ∷ vint w64 entries ∷ []) Post)
     walk =
@@ -280,7 +269,7 @@ module _ {M : Type 1} (𝓤 : URA M) (H : Heap 𝓤) (A : Atoms 𝓤) (W : Given
         pass1 ! (init ! 12 refl ((array-lawful 𝓤 H A W T.the-row (LL.lawful T.the-type T′.the-laws 𝓤 H A W) 516) .typed list (list-val ∷ []) list-is .0)) $
         pass1 ! (init ! 10 refl ((uint-lawful 𝓤 H A W w64) .typed entries ((vint w64 entries) ∷ []) (refl, entries-fits) .0)) $ pass0 ! $
         keep ! (18 ∷ 19 ∷ 16 ∷ 14 ∷ 12 ∷ 10 ∷ 8 ∷ 6 ∷ 4 ∷ 2 ∷ 0 ∷ 17 ∷ 15 ∷ 13 ∷ 11 ∷ 9 ∷ 7 ∷ 5 ∷ 3 ∷ 1 ∷ []) $
-        starting l₀ l₁ l₂ l₃ l₄ l₅ l₆ l₇ l₈)))))))))
+        reading l₀ l₁ l₂ l₃ l₄ l₅ l₆ l₇ l₈)))))))))
 
 module _ {M : Type 1} (𝓤 : URA M) (H : Heap 𝓤) (A : Atoms 𝓤) (W : Given 𝓤 H A) (at-mem : Memory → SProp 𝓤) (run : Routine → Fun 𝓤) where
   walks : (𝓣 : Tables 𝓤 H) → Triple 𝓤 (𝓣 .C #read-plan) (ReadPlan 𝓤 H A at-mem run)
