@@ -6,8 +6,8 @@ from text import bare, par, sub
 
 
 class Arrays:
-    """Of each lent array by its local: `of` its row and length, `began` and `lists` the list that it held first and holds
-    now, `long` that this one has that length."""
+    """Of each lent array by its local: `of` its row and length, `began` and `lists` the list that it held first and
+    holds now, `long` that this one has that length."""
 
     def __init__(self, caller):
         self.c, self.of, self.began, self.lists, self.long = caller, {}, {}, {}, {}
@@ -17,8 +17,8 @@ class Arrays:
         if k in self.of:
             return
         m, w = self.c.mean[k], self.c.w
-        self.of[k], self.began[k], self.lists[k], self.long[k] = m.row.of, m.x, m.x, par(m.known + ' .1 .0 .1')
-        (row, n) = self.of[k]
+        row, n = self.of[k] = m.row.of
+        self.began[k], self.lists[k], self.long[k] = m.x, m.x, par(m.known + ' .1 .0 .1')
         w.move('r%d' % k)
         w.emit(m.owned())
         w.head(0, 'own')

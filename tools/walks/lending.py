@@ -251,8 +251,8 @@ class Lending:
             c.fresh += [(out, res.den, out), (out + '-fits', '%s < 2 ^ %d' % (out, res.width), known + ' .1')]
         elif res.fields:
             at = '{0}.the-type {0}′.the-laws {1}'.format(res.alias, out)
-            w.emit('rewrite ! %d (λ (v : Val). ‵ (fat fullShare (%s) %s 0 v)) (ap only (LL.tells %s (%s ∷ []) %s)) refl $'
-                   % (w.i('r%d' % to), c.local_types[to], c.at(to), at, v, known))
+            w.emit('rewrite ! %d (λ (v : Val). ‵ (fat fullShare (%s) %s 0 v)) (ap only (LL.tells %s (%s ∷ []) %s)) '
+                   'refl $' % (w.i('r%d' % to), c.local_types[to], c.at(to), at, v, known))
             m = Val(res, out, res.val(out), known)
             c.fresh += [(out, res.den, out), (known, 'Is %s %s (%s ∷ [])' % (res.row, out, bare(m.v)),
                                               'LL.owes %s (LL.owed %s (%s ∷ []) %s)' % (at, at, v, known))]

@@ -1,5 +1,6 @@
-# The proof of a loop that copies the first `count` records of one list to another, of which one is lent and the other an
-# array by value. What the two walks share is here; each turn is written down in its description, statement by statement.
+# The proof of a loop that copies the first `count` records of one list to another, of which one is lent and the other
+# an array by value. What the two walks share is here; each turn is written down in its description, statement by
+# statement.
 import mir
 from caller import Caller, Lemma
 from lending import Lending
@@ -67,7 +68,8 @@ abbrev At : Upto → List (Item 𝓤)
 At i = {at}
 
 abbrev Turned : Upto → Out → SProp 𝓤
-Turned i = afterTurn 𝓤 H (Below 𝓤 H A Nearer At i) (afterBlock 𝓤 H (afterSeq 𝓤 H (Wp 𝓤 H C Λ E {then} (atReturn 𝓤 H E Post)) (atReturn 𝓤 H E Post)))
+Turned i = afterTurn 𝓤 H (Below 𝓤 H A Nearer At i)
+    (afterBlock 𝓤 H (afterSeq 𝓤 H (Wp 𝓤 H C Λ E {then} (atReturn 𝓤 H E Post)) (atReturn 𝓤 H E Post)))
 
 turns : (i : Upto) → Sq W (At i) (runs C Λ E mir.turn-1 (anyQ (Turned i)))
 unfolding afterTurn
@@ -85,11 +87,11 @@ def stripped(text):
 
 
 class Loop(Caller):
-    """A description gives: COPY, the `source` and the `old` list that is copied over, that each has `count` records, what
-    changes from turn to turn (`upto`), and `own` lemmas about it; the locals COUNT, INDEX, TEST, OFFSET and PLACE; FIRST,
-    the number of calls before the loop; what the context holds of the lent list: PARTS outside the loop and HELD in it,
-    and what these say there and at the end (`held`, `left`); SHARED, variables over all turns, and OVER, over the end;
-    `looping`, what the locals hold in a turn; and the walks `opens`, `turn`, `leaves` and `exits`."""
+    """A description gives: COPY, the `source` and the `old` list that is copied over, that each has `count` records,
+    what changes from turn to turn (`upto`), and `own` lemmas about it; the locals COUNT, INDEX, TEST, OFFSET and PLACE;
+    FIRST, the number of calls before the loop; what the context holds of the lent list: PARTS outside the loop and HELD
+    in it, and what these say there and at the end (`held`, `left`); SHARED, variables over all turns, and OVER, over
+    the end; `looping`, what the locals hold in a turn; and the walks `opens`, `turn`, `leaves` and `exits`."""
 
     LENDS, FIRST, SHARED, OVER = False, 0, [], []
 
@@ -192,7 +194,8 @@ class Loop(Caller):
         over = stripped(self.ends())
         self.begun(w.ctx, w.live)
         more = stripped(self.turn())
-        turns = TURNS.format(at=at, then=self.then, tested=tested, test=test, more=more, over=over).strip('\n').split('\n')
+        turns = TURNS.format(at=at, then=self.then, tested=tested, test=test, more=more, over=over)
+        turns = turns.strip('\n').split('\n')
         if self.SHARED:
             turns = ['module _ %s where' % binders(self.SHARED)] + ['  ' + line if line else '' for line in turns]
         out = self.before + self.exits_text() + turns + [

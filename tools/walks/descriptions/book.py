@@ -11,7 +11,8 @@ PROOFS = [Caller(
 -- Assumes nothing.
 ''',
     params=['order', 'bytes'],
-    types=[declared('struct', 'T', 'terms::BucketRecord'), declared('enum', 'An', 'recording::recorded::BookingAnswer')],
+    types=[declared('struct', 'T', 'terms::BucketRecord'),
+           declared('enum', 'An', 'recording::recorded::BookingAnswer')],
     calls=[
         Call('blanking-demands', 'book::files::blank_demands', out='no-demands'),
         Call('blanking-plan', 'record_list::arrays::blank_records', out='no-plan'),

@@ -7,8 +7,8 @@ OVER = 'order (%s) spread file booked books number counted-is' % BEFORE
 
 PROOFS = [Caller(
     'booking', 'bookings.book', '''
--- `booking::bookings::book` meets its contract. `book_records` books, and `store_records` stores as many records in each
--- lent list as `buckets_of` says the answer has. Of the three functions the proof knows only the contracts.
+-- `booking::bookings::book` meets its contract. `book_records` books, and `store_records` stores as many records in
+-- each lent list as `buckets_of` says the answer has. Of the three functions the proof knows only the contracts.
 -- Assumes nothing.
 ''',
     params=['order', 'demands', 'list', 'bytes', 'back'],

@@ -4,24 +4,24 @@ from rows import declared
 
 RECORD = declared('struct', 'T', 'terms::BucketRecord')
 USES = ['use Rattle.terms.specs.Answer.{Answer, figures, onFigures}', 'use Rattle.terms.specs.Lent.{filled}',
-        'use Rattle.terms.specs.Limits.{traceLimit}', 'use Rattle.record_list.specs.Held.{held, counted}',
-        'use Rattle.record_list.specs.HeldLaws.{stored-held}']
+        'use Rattle.record_list.specs.Held.{held, counted}', 'use Rattle.record_list.specs.HeldLaws.{stored-held}']
 
 
 def filling(mod, name, verb, does, inner, value, answer, says, of, cutting, shown, params, types, uses, more=()):
-    """A call over `inner`, which gives a struct `value` of the `answer` and the records of it, and these are stored. The
+    """A call over `inner`, which gives a struct `value` of the `answer` and its records, and these are stored. The
     definition's answer is over `of`: its records are `cutting`, and what the call answers is `shown`. `more`: facts of
     `inner` that are handed on."""
     struct = value.split('::')[-1]
     said, count = '%s (%%s .answer) ≡ %s' % (says, shown), 'counted (λ x. x .buckets) (%s (%%s .answer))' % says
     return Caller(
         'lent_plans', '%s.%s' % (mod, name), '''
--- `lent_plans::{0}::{1}` meets its contract. `{3}` {2}, and `store_records` stores as many of its records in the lent
--- list as `buckets_of` says the answer has. Of the three functions the proof knows only the contracts.
+-- `lent_plans::{0}::{1}` meets its contract. `{3}` {2}, and `store_records` stores as
+-- many of its records in the lent list as `buckets_of` says the answer has. Of the three functions the proof knows only
+-- the contracts.
 -- Assumes nothing.
 '''.format(mod, name, does, inner.split('::')[-1]),
         params=params,
-        types=[RECORD] + types + [declared('enum', 'An', answer), declared('struct', 'Fo', value, ['answer', 'records'])],
+        types=[RECORD, declared('enum', 'An', answer), declared('struct', 'Fo', value, ['answer', 'records'])] + types,
         calls=[
             Call(verb, inner, out='found',
                  ens=[('answered', said % 'found'), ('holds', 'found .records ≡ held (%s)' % cutting)] + list(more)),
@@ -47,7 +47,8 @@ PLANNING = filling(
     'cuttings', 'series', 'planning', 'plans', 'series::planner::plan_series', 'series::answers::SeriesRecords',
     'series::answers::SeriesAnswer', 'seriesSays', 'tariff (length list) trace', SERIES, 'planOf tariff (%s)' % SERIES,
     ['trace', 'tariff', 'list'], [declared('struct', 'Ta', 'terms::Tariff')],
-    ['use Rattle.series.specs.CallLaws.{count-is, count-fits}', 'use Rattle.series.specs.Series.{planOf, seriesOf, seriesSays}'])
+    ['use Rattle.series.specs.CallLaws.{count-is, count-fits}',
+     'use Rattle.series.specs.Series.{planOf, seriesOf, seriesSays}'])
 
 READ = 'readPlan (length list) bytes'
 READING = filling(

@@ -24,13 +24,15 @@ PROOFS = [
          params=['trace', 'tariff', 'list', 'entries'],
          types=[declared('struct', 'P', 'terms::Tariff'), declared('enum', 'F', 'series::answers::SeriesAnswer'),
                 declared('struct', 'S', 'list_calls::arrays::SeriesLent', ['answer', 'list'])],
-         call=Call('planning', 'lent_plans::cuttings::series', out='answer', new=['after'], exported='lent_plans::series'),
+         call=Call('planning', 'lent_plans::cuttings::series', out='answer', new=['after'],
+                   exported='lent_plans::series'),
          fits='entries ≤ 516', fronts={'list': 'fits'}),
     walk('read_in', FILLED.format('read_in', 'read_plan'),
          params=['bytes', 'list', 'entries'],
          types=[declared('enum', 'F', 'plan_file::answers::PlanAnswer'),
                 declared('struct', 'S', 'list_calls::arrays::ReadLent', ['answer', 'list'])],
-         call=Call('reading', 'lent_plans::files::read_plan', out='answer', new=['after'], exported='lent_plans::read_plan'),
+         call=Call('reading', 'lent_plans::files::read_plan', out='answer', new=['after'],
+                   exported='lent_plans::read_plan'),
          fits='entries ≤ 516', fronts={'list': 'fits'}),
     walk('write_in', '''
 -- `list_calls::arrays::write_in` meets its contract: a walk of its MIR. The array is copied into a local, and its
@@ -42,7 +44,8 @@ PROOFS = [
          params=['figs', 'list', 'entries', 'bytes'],
          types=[declared('struct', 'P', 'plan_file::answers::PlanFigures'),
                 declared('enum', 'F', 'encoding::fills::FillAnswer')],
-         call=Call('writing', 'lent_plans::files::write_plan', out='answer', new=['file'], exported='lent_plans::write_plan'),
+         call=Call('writing', 'lent_plans::files::write_plan', out='answer', new=['file'],
+                   exported='lent_plans::write_plan'),
          fits='entries ≤ 516', fronts={'list': 'fits'}),
     walk('book_in', '''
 -- `list_calls::arrays::book_in` meets its contract: a walk of its MIR. Each array is copied into a local, and its

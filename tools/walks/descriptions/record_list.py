@@ -98,8 +98,10 @@ class LoadRecords(Loop):
 abbrev start : (r : List BucketRecord) (v : Val) → Is {0} r (v ∷ []) → r ≡ blank → Upto
 start r v is e = (0, zero-le, v, subst (λ (h : List BucketRecord). Is {0} h (v ∷ [])) e is)
 
-abbrev next : (i : Upto) → i .0 < count → (r : List BucketRecord) (v : Val) → Is {0} r (v ∷ []) → r ≡ set (after (i .0)) (i .0) (this (i .0)) → Upto
-next i l r v is e = (i .0 + 1, add-one-le l, v, subst (λ (h : List BucketRecord). Is {0} h (v ∷ [])) (e ∙ after-next (i .0) l) is)
+abbrev next : (i : Upto) → i .0 < count → (r : List BucketRecord) (v : Val) → Is {0} r (v ∷ [])
+    → r ≡ set (after (i .0)) (i .0) (this (i .0)) → Upto
+next i l r v is e =
+    (i .0 + 1, add-one-le l, v, subst (λ (h : List BucketRecord). Is {0} h (v ∷ [])) (e ∙ after-next (i .0) l) is)
 
 at-end : (i : Upto) → count ≤ i .0 → Is {0} (after count) (i .2 ∷ [])
 at-end i over = subst (λ (n : ℕ). Is {0} (after n) (i .2 ∷ [])) (le-antisymm (i .1) over) (i .3)

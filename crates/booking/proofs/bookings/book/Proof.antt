@@ -1,5 +1,5 @@
--- `booking::bookings::book` meets its contract. `book_records` books, and `store_records` stores as many records in each
--- lent list as `buckets_of` says the answer has. Of the three functions the proof knows only the contracts.
+-- `booking::bookings::book` meets its contract. `book_records` books, and `store_records` stores as many records in
+-- each lent list as `buckets_of` says the answer has. Of the three functions the proof knows only the contracts.
 -- Assumes nothing.
 use mathlib.Core.Path.{_≡_, refl, ap}
 use Prim.Native.Nat.{ℕ, _<_, _^_}

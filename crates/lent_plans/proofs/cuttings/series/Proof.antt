@@ -1,5 +1,6 @@
--- `lent_plans::cuttings::series` meets its contract. `plan_series` plans, and `store_records` stores as many of its records in the lent
--- list as `buckets_of` says the answer has. Of the three functions the proof knows only the contracts.
+-- `lent_plans::cuttings::series` meets its contract. `plan_series` plans, and `store_records` stores as
+-- many of its records in the lent list as `buckets_of` says the answer has. Of the three functions the proof knows only
+-- the contracts.
 -- Assumes nothing.
 use mathlib.Core.Path.{_≡_, refl, _∙_, ap}
 use Prim.Native.Nat.{ℕ, _<_, _^_}
@@ -51,14 +52,14 @@ use Rattle.series.specs.Series.{planOf, seriesOf, seriesSays}
 use Rattle.terms.specs.declared.BucketRecord.{BucketRecord}
 use Rattle.terms.proofs.BucketRecord as T
 use Rattle.terms.proofs.BucketRecord.Laws as T′
-use Rattle.terms.specs.declared.Tariff.{Tariff}
-use Rattle.terms.proofs.Tariff as Ta
-use Rattle.terms.proofs.Tariff.Laws as Ta′
 use Rattle.series.proofs.answers.SeriesAnswer as An
 use Rattle.series.proofs.answers.SeriesAnswer.Laws as An′
 use Rattle.series.specs.declared.answers.SeriesRecords.{SeriesRecords}
 use Rattle.series.proofs.answers.SeriesRecords as Fo
 use Rattle.series.proofs.answers.SeriesRecords.Laws as Fo′
+use Rattle.terms.specs.declared.Tariff.{Tariff}
+use Rattle.terms.proofs.Tariff as Ta
+use Rattle.terms.proofs.Tariff.Laws as Ta′
 use Rattle.series.proofs.planner.plan_series as plan-series
 use Rattle.series.proofs.planner.plan_series.Symbol as plan-series-def
 use Rattle.series.proofs.planner.plan_series.Symbol.{name as #plan-series}

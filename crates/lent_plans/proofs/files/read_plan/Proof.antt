@@ -1,5 +1,6 @@
--- `lent_plans::files::read_plan` meets its contract. `read_records` reads, and `store_records` stores as many of its records in the lent
--- list as `buckets_of` says the answer has. Of the three functions the proof knows only the contracts.
+-- `lent_plans::files::read_plan` meets its contract. `read_records` reads, and `store_records` stores as
+-- many of its records in the lent list as `buckets_of` says the answer has. Of the three functions the proof knows only
+-- the contracts.
 -- Assumes nothing.
 use mathlib.Core.Path.{_≡_, refl, _∙_, ap}
 use Prim.Native.Nat.{ℕ, _<_, _^_}

@@ -151,9 +151,10 @@ module _ {M : Type 1} (𝓤 : URA M) (H : Heap 𝓤) (A : Atoms 𝓤) (W : Given
   abbrev start : (r : List BucketRecord) (v : Val) → Is (Array T.the-row 512) r (v ∷ []) → r ≡ blank → Upto
   start r v is e = (0, zero-le, v, subst (λ (h : List BucketRecord). Is (Array T.the-row 512) h (v ∷ [])) e is)
 
-  abbrev next : (i : Upto) → i .0 < count → (r : List BucketRecord) (v : Val) → Is (Array T.the-row 512) r (v ∷ []) → r ≡ set (after (i .0)) (i .0)
-      (this (i .0)) → Upto
-  next i l r v is e = (i .0 + 1, add-one-le l, v, subst (λ (h : List BucketRecord). Is (Array T.the-row 512) h (v ∷ [])) (e ∙ after-next (i .0) l) is)
+  abbrev next : (i : Upto) → i .0 < count → (r : List BucketRecord) (v : Val) → Is (Array T.the-row 512) r (v ∷ [])
+      → r ≡ set (after (i .0)) (i .0) (this (i .0)) → Upto
+  next i l r v is e =
+      (i .0 + 1, add-one-le l, v, subst (λ (h : List BucketRecord). Is (Array T.the-row 512) h (v ∷ [])) (e ∙ after-next (i .0) l) is)
 
   at-end : (i : Upto) → count ≤ i .0 → Is (Array T.the-row 512) (after count) (i .2 ∷ [])
   at-end i over = subst (λ (n : ℕ). Is (Array T.the-row 512) (after n) (i .2 ∷ [])) (le-antisymm (i .1) over) (i .3)
@@ -245,7 +246,8 @@ module _ {M : Type 1} (𝓤 : URA M) (H : Heap 𝓤) (A : Atoms 𝓤) (W : Given
             ‵ (fdies tyPtr l₇) ∷ ‵ (fdies T′.mir l₈) ∷ []
 
         abbrev Turned : Upto → Out → SProp 𝓤
-        Turned i = afterTurn 𝓤 H (Below 𝓤 H A Nearer At i) (afterBlock 𝓤 H (afterSeq 𝓤 H (Wp 𝓤 H C Λ E mir.t-4 (atReturn 𝓤 H E Post)) (atReturn 𝓤 H E Post)))
+        Turned i = afterTurn 𝓤 H (Below 𝓤 H A Nearer At i)
+            (afterBlock 𝓤 H (afterSeq 𝓤 H (Wp 𝓤 H C Λ E mir.t-4 (atReturn 𝓤 H E Post)) (atReturn 𝓤 H E Post)))
 
         turns : (i : Upto) → Sq W (At i) (runs C Λ E mir.turn-1 (anyQ (Turned i)))
         unfolding afterTurn

@@ -209,7 +209,8 @@ module _ {M : Type 1} (𝓤 : URA M) (H : Heap 𝓤) (A : Atoms 𝓤) (W : Given
           ‵ (fdies (tyInt w64) l₄) ∷ ‵ (fdies tyBool l₅) ∷ ‵ (fdies T′.mir l₆) ∷ ‵ (fdies (tyInt w64) l₇) ∷ ‵ (fdies tyPtr l₈) ∷ []
 
       abbrev Turned : Upto → Out → SProp 𝓤
-      Turned i = afterTurn 𝓤 H (Below 𝓤 H A Nearer At i) (afterBlock 𝓤 H (afterSeq 𝓤 H (Wp 𝓤 H C Λ E mir.t-3 (atReturn 𝓤 H E Post)) (atReturn 𝓤 H E Post)))
+      Turned i = afterTurn 𝓤 H (Below 𝓤 H A Nearer At i)
+          (afterBlock 𝓤 H (afterSeq 𝓤 H (Wp 𝓤 H C Λ E mir.t-3 (atReturn 𝓤 H E Post)) (atReturn 𝓤 H E Post)))
 
       turns : (i : Upto) → Sq W (At i) (runs C Λ E mir.turn-1 (anyQ (Turned i)))
       unfolding afterTurn
