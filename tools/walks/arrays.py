@@ -61,6 +61,7 @@ class Arrays:
     def of_field(self, row, x, known):
         """A struct's field that is an array: the field's values are its elements."""
         r, n = row.of
+        assert r.alias, 'an array of numbers as a field is not covered'
         of = '{0}.the-type {0}′.the-laws'.format(r.alias)
         v = 'arrayVal (map (LL.tuple-val %s) (map (%s.the-type .to) %s))' % (of, r.alias, x)
         return Val(row, x, v, '(field-was %s.the-type %d %s (%s ∷ []) (%s))' % (r.alias, n, x, v, known))

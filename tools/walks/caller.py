@@ -138,6 +138,7 @@ class Caller:
 
     def field(self, m, i):
         """Field i of a struct."""
+        assert m.row.fields and m.v == m.row.val(m.x), "a field is read of a call's result"
         row, of = self.types.row(self.fields[m.row.path][i]), m.row.alias
         x = '(%s .%s)' % (m.x, quoted(m.row.fields[i]))
         known = 'LL.owed {0}.the-type {0}′.the-laws {1} ({2} ∷ []) {3}{4}'.format(of, m.x, bare(m.v), m.known, proj(i))
