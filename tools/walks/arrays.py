@@ -139,6 +139,13 @@ class Arrays:
         assert r.alias, 'an array of numbers as a field is not covered'
         return '(field-is %s.the-type %d %s (%s ∷ []) %s)' % (r.alias, n, par(m.x), bare(m.v), par(m.known))
 
+    def of_field(self, row, x, known):
+        """A struct's field that is an array: the field's values are its elements."""
+        r, n = row.of
+        of = '{0}.the-type {0}′.the-laws'.format(r.alias)
+        v = 'arrayVal (map (LL.tuple-val %s) (map (%s.the-type .to) %s))' % (of, r.alias, x)
+        return Val(row, x, v, '(field-was %s.the-type %d %s (%s ∷ []) (%s))' % (r.alias, n, x, v, known))
+
     def freed(self):
         w = self.c.w
         for k, (row, n) in self.of.items():

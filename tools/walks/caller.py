@@ -3,13 +3,13 @@
 # function.
 import mir
 from arrays import Arrays
-from frame import Cited, Frame, Param, ROOM_FITS, says
+from frame import Cited, Frame, Param, ROOM_FITS
 from imports import KIT, KIT_NAMES, LENT, pruned
 from lending import Lending
 from meaning import Part, Slice, To, Val
 from rows import Types, uint
-from text import bare, binders, cons, nest, par, sub, words, wrapped
-from walk import Walk
+from text import bare, binders, cons, nest, par, proj, quoted, sub, words, wrapped
+from walk import Walk, cell
 
 
 class Call:
@@ -29,6 +29,8 @@ class Lemma:
 
 
 class Caller:
+    LENDS, statements_of = True, staticmethod(mir.statements)
+
     def __init__(self, crate, name, comment, params, types, calls, ensures=None, requires=None, uses=(),
                  inner='', inits='zeros', start=(), fronts=None):
         self.crate, self.mods, self.name, self.comment = crate, name.split('.'), name.split('.')[-1], comment
@@ -39,9 +41,10 @@ class Caller:
     def read(self):
         """The function as the MIR has it, and its frame."""
         f = mir.function(self.crate, '::'.join([self.crate] + self.mods))
-        self.body, self.locals, self.n = mir.statements(f), f.locals, len(f.locals)
+        self.body, self.locals, self.fields, self.n = self.statements_of(f), f.locals, f.fields, len(f.locals)
         assert len(self.param_names) == f.params, 'a name for each parameter'
-        self.params = [Param(self.types, k + 1, x, f.locals[k + 1]) for k, x in enumerate(self.param_names)]
+        self.params = [Param(self.types, k + 1, x, f.locals[k + 1], self.LENDS)
+                       for k, x in enumerate(self.param_names)]
         self.local_types = [self.types.text(t) for t in f.locals]
         names = [x for c in self.calls for x in c.new + [c.out] + [e[0] for e in c.ens]]
         assert not KIT_NAMES & set(names), 'names of the proof kit: %s' % (KIT_NAMES & set(names))
@@ -51,6 +54,10 @@ class Caller:
         self.cited = cited
         self.frame = Frame(self.crate, self.mods, f.lifetimes, self.params, self.requires, list(cited.values()))
         self.arrays = Arrays(self)
+        self.cur, self.fresh, self.dead, self.lifetimes, self.exit_vars = {}, [], set(), 0, []
+        self.val = {p.local: p.value for p in self.params}
+        self.mean = {p.local: Slice(p) if p.is_ref else p.meaning() for p in self.params}
+        self.entries, self.lemmas = self.frame.entries(), []
 
     # ---- the context
     def at(self, k):
@@ -58,15 +65,7 @@ class Caller:
 
     def item(self, name):
         """What an entry of the context says."""
-        if name in self.entries:
-            return self.entries[name]
-        k = int(name[1:])
-        ty = par(self.local_types[k])
-        if name[0] == 'd':
-            return 'fdies %s %s' % (ty, self.at(k))
-        if k in self.val:
-            return 'fat fullShare %s %s 0 %s' % (ty, self.at(k), self.val[k])
-        return 'froom %s %s 0' % (ty, self.at(k))
+        return self.entries[name] if name in self.entries else cell(name, self.local_types, self.val)
 
     def items(self, ctx):
         return cons('‵ (%s)' % self.item(n) for n in ctx)
@@ -74,17 +73,7 @@ class Caller:
     # ---- the walk
     def build(self):
         self.read()
-        self.cur, self.entries, self.val, self.mean = {}, {}, {}, {}
-        self.fresh, self.dead, self.lemmas, self.exit_vars, self.lifetimes = [], set(), [], [], 0
-        for p in self.params:
-            self.val[p.local] = p.value
-            self.mean[p.local] = Slice(p) if p.is_ref else Val(p.row, p.name, p.value, p.known)
-            if p.is_ref:
-                self.entries['P%d' % p.local] = '%s .own x%s (s%s ∷ [])' % (p.own, p.i, p.i)
-                self.entries['t%d' % p.local] = 'flft κ%s q%s' % (p.i, p.i)
-        refs = [p.local for p in self.frame.refs]
-        begin = [a + str(k) for a in 'Pt' for k in refs] + [a + str(k) for a in 'rd' for k in range(self.n)]
-        self.entry = self.entering(begin)
+        begin = self.frame.begin(self.n)
         self.w = Walk(begin, self.n)
         self.w.live = {p.local for p in self.params}
         self.todo = list(self.calls)
@@ -94,24 +83,6 @@ class Caller:
 
     def next_name(self):
         return self.todo[0].verb if self.todo else 'ending'
-
-    def entering(self, begin):
-        w = Walk(['toks', 'owns'], self.n)
-        for p in self.frame.refs:
-            w.split('toks', 't%d' % p.local, 'toks')
-        w.drop('toks')
-        for p in self.params:
-            w.split('owns', 'P%d' % p.local, 'owns', rule='fsplit')
-            if not p.is_ref:
-                w.drop('P%d' % p.local)
-        w.drop('owns')
-        w.enter('C Λ', self.frame.values, [self.at(k) for k in range(self.n)])
-        for p in self.params:
-            typed = ROOM_FITS % ('room%s .0' % p.i) if p.is_ref else self.mean[p.local].typed()
-            w.emit('pass1 ! (init ! %d refl %s) $' % (w.i('r%d' % p.local), typed))
-        w.emit('pass0 ! $')
-        w.keep(*begin)
-        return w
 
     def statements(self):
         started = not self.arrays.of
@@ -127,7 +98,7 @@ class Caller:
             if s == mir.RETURN:
                 self.end()
             elif isinstance(s, mir.Called):
-                Lending(self, self.todo.pop(0), s).walk(i)
+                Lending(self, self.todo.pop(0), s).walk_at(i)
             else:
                 self.assign(s.to, s.value)
 
@@ -164,7 +135,21 @@ class Caller:
         if isinstance(x, mir.Lit):
             r = uint(x.width)
             return Val(r, x.value, r.val(x.value), '(refl, lit< tt)')
-        return self.mean[x.local]
+        m = self.mean[x.local]
+        if x.fields and isinstance(m, Slice):
+            assert x.fields == [1], 'of a slice only the length is read'
+            r, length, fits = uint(64), '(length %s)' % m.param.name, 'room%s .0' % m.param.i
+            return Val(r, length, r.val(length), '(refl, %s)' % fits)
+        return self.field(m, *x.fields) if x.fields else m
+
+    def field(self, m, i):
+        """Field i of a struct."""
+        row, of = self.types.row(self.fields[m.row.path][i]), m.row.alias
+        x = '(%s .%s)' % (m.x, quoted(m.row.fields[i]))
+        known = 'LL.owed {0}.the-type {0}′.the-laws {1} ({2} ∷ []) {3}{4}'.format(of, m.x, bare(m.v), m.known, proj(i))
+        if not row.of:
+            return Val(row, x, row.val(x), '(%s)' % known)
+        return self.arrays.of_field(row, x, known)
 
     def assign(self, k, value):
         w = self.w
@@ -172,13 +157,6 @@ class Caller:
             self.address(k, value)
         elif isinstance(value, mir.Built):
             self.built(k, value.parts)
-        elif isinstance(value, mir.Copy) and value.fields:
-            p = self.mean[value.local].param
-            assert value.fields == [1], 'of a slice only the length is read'
-            length, fits = '(length %s)' % p.name, 'room%s .0' % p.i
-            w.copy(k, self.operand(value), '(tt, record { fits = %s })' % fits)
-            self.val[k] = uint(64).val(length)
-            self.mean[k] = Val(uint(64), length, self.val[k], '(refl, %s)' % fits)
         else:
             if isinstance(value, mir.Copy) and value.local in self.arrays.of and value.local not in w.live:
                 self.arrays.whole(value.local)
@@ -215,8 +193,7 @@ class Caller:
 
     def struct(self, row, parts):
         assert len(row.fields) == len(parts), 'name the fields of ' + row.den
-        named = ['«%s»' % f if '_' in f else f for f in row.fields]
-        fields = '; '.join('%s = %s' % (f, m.x) for f, m in zip(named, parts))
+        fields = '; '.join('%s = %s' % (quoted(f), m.x) for f, m in zip(row.fields, parts))
         known = nest([self.arrays.as_field(m) if m.row.of else m.known for m in parts])
         return Val(row, 'record { %s }' % fields, '(vstruct (ofList (%s)))' % cons(bare(m.v) for m in parts),
                    '(%s, (refl, %s))' % (nest(['%s ∷ []' % bare(m.v) for m in parts]), known))
@@ -230,46 +207,19 @@ class Caller:
         self.w.keep(*left)
         m, ctx, ind = self.mean[0], self.items(left), '  ' if self.exit_vars else ''
         lines = ['exits : ent 𝓤 (⋆ 𝓤 H A (%s)) (Post %s)' % (ctx, m.v), 'exits =', '    qed W (%s) ∵' % ctx]
-        lines += ['    ' + line.strip() for line in self.exits(left, m).text('done !').split('\n')]
+        w, last = Walk(left, self.n), {}
+        for p in self.params:
+            if p.kind == 'mut':
+                name = self.entries[self.held(p)].split(' ')[-1]
+                last[p] = (name, name + '-long')
+        self.frame.exits(w, {p: self.held(p) for p in self.frame.refs}, m, last, self.ensures)
+        lines += ['    ' + line.strip() for line in w.text('done !').split('\n')]
         opened = ['module _ %s where' % binders(self.exit_vars)] if self.exit_vars else []
         self.lemma.before = opened + [ind + line for line in lines] + ['']
         self.close('by ! ' + par(' '.join(['exits'] + [n for n, _ in self.exit_vars])))
 
     def held(self, p):
         return ('F%d' if p.kind == 'mut' else 'P%d') % p.local
-
-    def exits(self, left, result):
-        """What is left at the end is what the contract asks there."""
-        w, changed = Walk(left, self.n), [p for p in self.params if p.kind == 'mut']
-        lists = {p: self.entries[self.held(p)].split(' ')[-1] for p in changed}
-        last = nest([lists.get(p, 'tt') for p in self.params])
-        long = nest([lists[p] + '-long' if p in lists else 'tt' for p in self.params])
-        w.emit('suffices ! _ (ends-at 𝓤 H A self.ended stayed (self.clauses 𝓤 H A at-mem run) W %s %s %s %s %s) $'
-               % (self.frame.bound, result.v, par(result.x), last, long))
-        if self.ensures:
-            w.emit(says(self.ensures))
-        w.nil()
-        w.joins(['t%d' % p.local for p in self.frame.refs] + ['nil'], 'join', 'toks')
-        self.framed(w, 'toks')
-        w.nil()
-        for p in self.params:
-            if not p.is_ref:
-                w.emit('nothing ! $' if p.row.of else Val(p.row, p.name, p.value, p.known).owned())
-                w.head(0, self.held(p))
-        w.joins([self.held(p) for p in self.params] + ['nil'], 'fjoin', 'had')
-        self.framed(w, 'had')
-        w.emit(result.owned())
-        if not self.ensures:
-            w.head(0, 'own')
-            w.joins(['toks', 'had', 'own'], 'join', 'all')
-            w.emit('frame ! $')
-        return w
-
-    def framed(self, w, name):
-        if self.ensures:
-            w.move(name)
-            w.emit('frame ! $')
-            w.head(1)
 
     # ---- the file
     def needed(self):
@@ -295,21 +245,19 @@ class Caller:
         text = lemma.walk.text(' '.join([lemma.last] + [a for _, a in lemma.args]))
         return out + [ind + '    ' + line.strip() for line in text.split('\n')] + ['']
 
-    def text(self):
+    def walk_text(self):
+        """The lemmas of the walk; the first of it is last here."""
         self.build()
         self.needed()
-        f, ls = self.frame, ' '.join(self.at(k) for k in range(self.n))
-        known = ' '.join('(known-%s : %s)' % (g.alias, g.triple('C')) for g in f.cited)
+        return [line for lemma in reversed(self.lemmas) for line in self.lemma_text(lemma)], self.lemmas[0].name
+
+    def text(self):
+        (walk, first), f = self.walk_text(), self.frame
         out = f.stayed() + self.arrays.lemmas() + f.contracts() + f.opened() + self.arrays.typed() + f.names()
         if self.inner:
             out += ['  ' + line if line else '' for line in self.inner.strip('\n').split('\n')] + ['']
-        out += ['  module _ (C : Calls 𝓤 H) (Λ : Loops 𝓤 H) (fm : FmC 𝓤 H (W .laws) C) %s where' % known,
-                '    module _ (%s : ℕ) where' % ls, '      abbrev E : Env 𝓤 H',
-                '      E = ' + cons('(%s, %s)' % (t, self.at(k)) for k, t in enumerate(self.local_types)), '']
-        for lemma in reversed(self.lemmas):
-            out += self.lemma_text(lemma)
-        out += f.walk(self.entry.text('%s %s' % (self.lemmas[0].name, ls))) + f.walks() + f.meets() + f.spec()
-        body = wrapped(out)
+        out += f.calling() + f.locals(self.local_types) + walk + f.walk(first, self.n)
+        body = wrapped(out + f.walks() + f.meets() + f.spec())
         return self.comment.strip('\n') + '\n' + '\n'.join(pruned(self.uses(), body)) + '\n\n' + body
 
     def uses(self):

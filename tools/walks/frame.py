@@ -2,8 +2,10 @@
 import re
 
 from imports import KIT_NAMES
+from meaning import Val
 from rows import inside
 from text import bare, cons, nest, par, proj, sub
+from walk import Walk
 
 ALL = '{M : Type 1} (𝓤 : URA M) (H : Heap 𝓤) (A : Atoms 𝓤)'
 MEM = '(at-mem : Memory → SProp 𝓤) (run : Routine → Fun 𝓤)'
@@ -16,10 +18,11 @@ def says(proof):
 
 
 class Param:
-    """A parameter: its local, the name of its value, its kind: a slice ('mut', 'imm'), a number ('num') or 'val'."""
+    """A parameter: its local, the name of its value, its kind: a slice ('mut', 'imm'), a number ('num') or 'val'.
+    A `&mut` slice is `lent_on` to a call, or the function itself changes it."""
 
-    def __init__(self, types, local, name, t):
-        found = types.slice(t)
+    def __init__(self, types, local, name, t, lent_on=True):
+        found, self.lent_on = types.slice(t), lent_on
         self.local, self.name = local, name
         self.kind, self.lifetime, self.row = found if found else (None, None, types.row(t))
         self.kind = self.kind or ('num' if self.row.width else 'val')
@@ -57,7 +60,7 @@ class Param:
         """How it stands at the end: a list of the caller's is given back, all else is as it was, an array is gone."""
         slot = '(plain (λ _. %s))' % self.row.row
         if self.kind == 'mut':
-            return 'gave-slice (%d ∷ []) tt %s' % (self.lifetime, slot)
+            return '%s (%d ∷ []) tt %s' % ('gave-slice' if self.lent_on else 'stay-slice', self.lifetime, slot)
         if self.kind == 'imm':
             return 'stay-none-slice (%d ∷ []) tt %s yes' % (self.lifetime, slot)
         return 'stay-dropped %s yes' % self.array_slot() if self.row.of else 'stay-none (λ _. %s) yes' % self.row.row
@@ -65,12 +68,15 @@ class Param:
     def goes(self, lifetimes):
         slot, start = '(plain (λ _. %s))' % self.row.row, '𝓤 H A W %d' % lifetimes
         if self.kind == 'mut':
-            return 'goes-gave-slice %s %d tt %s' % (start, self.lifetime, slot)
+            return '%s %s %d tt %s' % ('goes-gave-slice' if self.lent_on else 'goes-slice', start, self.lifetime, slot)
         if self.kind == 'imm':
             return 'goes-none-slice %s (%d ∷ []) tt %s yes' % (start, self.lifetime, slot)
         if self.row.of:
             return 'goes-dropped %s %s yes (λ κs x f. refl)' % (start, self.array_slot())
         return 'goes-none %s (λ _. %s) yes (λ κs x f. refl)' % (start, self.row.row)
+
+    def meaning(self):
+        return Val(self.row, self.name, self.value, self.known)
 
     def tells(self):
         if not self.is_ref:
@@ -155,12 +161,85 @@ class Frame:
             '  vals = ' + nest(['%s ∷ []' % bare(p.value) for p in P]), '', '  abbrev Post : Val → SProp 𝓤',
             '  Post = walkOf 𝓤 H A self.ended stayed (self.clauses 𝓤 H A at-mem run) .post ' + self.bound, '']
 
-    def walk(self, entry):
+    def calling(self):
+        """The module in which the functions are known that are called."""
+        known = ' '.join('(known-%s : %s)' % (g.alias, g.triple('𝓣 .C')) for g in self.cited)
+        return ['  module _ (𝓣 : Tables 𝓤 H) %s where' % known, '    abbrev C : Calls 𝓤 H', '    C = 𝓣 .C', '',
+                '    abbrev Λ : Loops 𝓤 H', '    Λ = 𝓣 .Λ', '',
+                '    fm : FmC 𝓤 H (W .laws) C', '    fm = fmOf 𝓤 H (W .laws) 𝓣', '']
+
+    def entries(self):
+        """What the context says of each slice, and of its lifetime."""
+        out = {}
+        for p in self.refs:
+            out['P%d' % p.local] = '%s .own x%s (s%s ∷ [])' % (p.own, p.i, p.i)
+            out['t%d' % p.local] = 'flft κ%s q%s' % (p.i, p.i)
+        return out
+
+    def begin(self, n):
+        """The context in which the body begins, with n locals."""
+        return ['%s%d' % (a, p.local) for a in 'Pt' for p in self.refs] + [a + str(k) for a in 'rd' for k in range(n)]
+
+    def entering(self, n):
+        """From the function's call to its body."""
+        w = Walk(['toks', 'owns'], n)
+        for p in self.refs:
+            w.split('toks', 't%d' % p.local, 'toks')
+        w.drop('toks')
+        for p in self.params:
+            w.split('owns', 'P%d' % p.local, 'owns', rule='fsplit')
+            if not p.is_ref:
+                w.drop('P%d' % p.local)
+        w.drop('owns')
+        w.enter('C Λ', self.values, ['l' + sub(k) for k in range(n)])
+        for p in self.params:
+            typed = ROOM_FITS % ('room%s .0' % p.i) if p.is_ref else p.meaning().typed()
+            w.emit('pass1 ! (init ! %d refl %s) $' % (w.i('r%d' % p.local), typed))
+        w.emit('pass0 ! $')
+        w.keep(*self.begin(n))
+        return w
+
+    def locals(self, types):
+        """The module over the places of the locals, of these types."""
+        ls = ['l' + sub(k) for k in range(len(types))]
+        return ['    module _ (%s : ℕ) where' % ' '.join(ls), '      abbrev E : Env 𝓤 H',
+                '      E = ' + cons('(%s, %s)' % x for x in zip(types, ls)), '']
+
+    def walk(self, first, n):
+        """The walk, which begins with the lemma `first`."""
+        entry = self.entering(n).text(' '.join([first] + ['l' + sub(k) for k in range(n)]))
         tokens = ''.join('‵ (flft κ%s q%s) ⊛ ' % (p.i, p.i) for p in self.refs) + '‵ ftrue'
         return ['    walk : ent 𝓤 (onEntry 𝓤 H A self.signature %s %s a vals) (WpFn 𝓤 H C Λ code.function (%s) Post)'
                 % (self.lfts, self.shares, self.values), '    walk =',
                 '        qed W ((%s) ∷ ‵ (owns (%s) a vals) ∷ []) ∵' % (tokens, cons(p.own for p in self.params))
                 ] + ['        ' + line.strip() for line in entry.split('\n')] + ['']
+
+    def exits(self, w, held, result, last, ensures):
+        """What is left at the end is what the contract asks there: the tokens, the slices by their names in `held`, and
+        the result. `last`: of a parameter that was changed, its list and that it is as long as before."""
+        lists, long = (nest([last[p][i] if p in last else 'tt' for p in self.params]) for i in (0, 1))
+        w.emit('suffices ! _ (ends-at 𝓤 H A self.ended stayed (self.clauses 𝓤 H A at-mem run) W %s %s %s %s %s) $'
+               % (self.bound, result.v, par(result.x), lists, long))
+        if ensures:
+            w.emit(says(ensures))
+        w.nil()
+        w.joins(['t%d' % p.local for p in self.refs] + ['nil'], 'join', 'toks')
+        if ensures:
+            w.frame('toks')
+        w.nil()
+        names = {**{p: 'v%d' % p.local for p in self.params}, **held}
+        for p in self.params:
+            if not p.is_ref:
+                w.emit('nothing ! $' if p.row.of else p.meaning().owned())
+                w.head(0, names[p])
+        w.joins([names[p] for p in self.params] + ['nil'], 'fjoin', 'had')
+        if ensures:
+            w.frame('had')
+        w.emit(result.owned())
+        if not ensures:
+            w.head(0, 'own')
+            w.joins(['toks', 'had', 'own'], 'join', 'all')
+            w.emit('frame ! $')
 
     def over_arguments(self, statement):
         """A statement about the parameters, about the components of `a`."""
@@ -175,20 +254,18 @@ class Frame:
         given = [p.given(at(p), 'are' + proj(p.local - 1)) for p in self.params]
         args += [x for xs, _ in given for x in xs] + [fact for _, fact in given]
         args += [self.requires[0]] if self.requires else []
-        body = 'walk 𝓤 H A W at-mem run %s C Λ fm %s' % (' '.join(par(x) for x in args), self.known)
+        body = 'walk 𝓤 H A W at-mem run %s 𝓣 %s' % (' '.join(par(x) for x in args), self.known)
         if not self.requires:
             return 'via 𝓤 _ (fst∗ 𝓤 _ (emp 𝓤)) (%s)' % body
         name, statement = self.requires
         return 'needs 𝓤 (%s) _ (λ %s. %s)' % (self.over_arguments(statement), name, body)
 
     def walks(self):
-        clauses = '(self.clauses 𝓤 H A at-mem run)'
+        clauses, function = '(self.clauses 𝓤 H A at-mem run)', '(WpFn 𝓤 H (𝓣 .C) (𝓣 .Λ) code.function)'
         return ['module _ %s (W : Given 𝓤 H A) %s where' % (ALL, MEM),
-                '  walks : (C : Calls 𝓤 H) (Λ : Loops 𝓤 H) → FmC 𝓤 H (W .laws) C → %s'
-                % ' → '.join(g.triple('C') for g in self.cited),
-                '      → Walks 𝓤 H A self.ended stayed (WpFn 𝓤 H C Λ code.function) ' + clauses,
-                '  walks C Λ fm %s = walked 𝓤 H A self.ended stayed %s (WpFn 𝓤 H C Λ code.function)'
-                % (self.known, clauses),
+                '  walks : (𝓣 : Tables 𝓤 H) → %s' % ' → '.join(g.triple('𝓣 .C') for g in self.cited),
+                '      → Walks 𝓤 H A self.ended stayed %s %s' % (function, clauses),
+                '  walks 𝓣 %s = walked 𝓤 H A self.ended stayed %s %s' % (self.known, clauses, function),
                 '      (λ κs. %s)' % nest(['slice-vals' if p.is_ref else p.row.vals for p in self.params]),
                 '      (λ κs. %s)' % nest([p.tells() for p in self.params]),
                 '      (λ κs qs bounds a g are. %s)' % self.walked(), '',
@@ -202,7 +279,7 @@ class Frame:
                 'meets 𝓤 H A W at-mem run 𝓣 %s =' % self.known,
                 '    walk-meets 𝓤 H A self.ended stayed W (goes 𝓤 H A W at-mem run) (self.clauses 𝓤 H A at-mem run)',
                 '    (WpFn 𝓤 H (𝓣 .C) (𝓣 .Λ) code.function) (WpFn-mono 𝓤 H (W .laws) 𝓣 code.function) '
-                '(walks 𝓤 H A W at-mem run (𝓣 .C) (𝓣 .Λ) (fmOf 𝓤 H (W .laws) 𝓣) %s)' % self.known, '']
+                '(walks 𝓤 H A W at-mem run 𝓣 %s)' % self.known, '']
 
     def spec(self):
         here, name = '𝓤 H (𝓖 .A) (𝓜 .mem) (𝓡 .run)', self.mods[-1].replace('_', '-') + '-spec'

@@ -4,7 +4,7 @@ import re
 from frame import says
 from meaning import Part, Slice, Val
 from rows import UNIT
-from text import bare, cons, nest, par, proj, sub
+from text import bare, binders, cons, nest, par, proj, sub
 
 
 class Arg:
@@ -23,8 +23,10 @@ class Arg:
 
 
 class Lending:
-    def __init__(self, caller, call, statement):
-        self.c, self.call, self.to = caller, call, statement.to
+    """A call by a walk `caller`; `over`: variables, with their types, that what it is called with depends on."""
+
+    def __init__(self, caller, call, statement, over=()):
+        self.c, self.call, self.to, self.over = caller, call, statement.to, list(over)
         self.operands, self.cited = statement.args, caller.cited[call.callee]
         assert statement.name == call.callee, 'the MIR calls %s, the description %s' % (statement.name, call.callee)
         self.result = caller.types.row(caller.locals[statement.to])
@@ -66,8 +68,8 @@ class Lending:
                    share='fullShare', token='ta%d' % number, entry='m%d' % number, array=k, number=number, i=i,
                    whole=xs, size=size, count=count, fits=fits, old=old, room=room)
 
-    def walk(self, at):
-        c = self.c
+    def walk(self):
+        """To where the result is stored."""
         for a in self.refs:
             if a.array is not None:
                 self.lend(a)
@@ -78,6 +80,11 @@ class Lending:
         self.ensured()
         self.lasts()
         self.landed()
+
+    def walk_at(self, at):
+        """The call that is statement `at`, to the beginning of the next lemma."""
+        c = self.c
+        self.walk()
         c.forget_old(at + 1)
         c.cut(c.next_name(), at + 2)
         for i, a in enumerate(self.args):
@@ -134,12 +141,11 @@ class Lending:
                  '%s =' % goes, '    qed W ((%s) ∷ ‵ (%s) ∷ []) ∵' % (self.tokens, owns),
                  '    ' + (says(self.call.needs) + 'frame ! $ done !' if self.call.needs
                            else 'join ! $ frame ! $ nothing ! $ done !')]
-        alphas, names = ' '.join('α' + a.i for a in self.lent), ' '.join('γ′' + a.i for a in self.lent)
-        if self.lent:
-            lines = ['module _ (%s : ℕ) (%s : GName) where' % (alphas, names)] + ['  ' + line for line in lines]
+        over = self.over + [('α' + a.i, 'ℕ') for a in self.lent] + [('γ′' + a.i, 'GName') for a in self.lent]
+        if over:
+            lines = ['module _ %s where' % binders(over)] + ['  ' + line for line in lines]
         self.c.lemma.before = lines + ['']
-        over = [alphas, names] if self.lent else []
-        self.ghost, self.goes = par(' '.join([to] + over)), par(' '.join([goes] + over))
+        self.ghost, self.goes = (par(' '.join([x] + [n for n, _ in over])) for x in (to, goes))
 
     def made(self):
         c, w = self.c, self.c.w
@@ -232,7 +238,8 @@ class Lending:
             w.split('toks', a.token, 'toks')
         w.drop('toks')
         m = Val(res, out, v, known)
-        w.emit('land ! (from ! (stop !)) (init ! %d refl %s) $' % (w.i('r%d' % to), m.typed()))
+        rule = 'store' if to in w.live else 'init'
+        w.emit('land ! (from ! (stop !)) (%s ! %d refl %s) $' % (rule, w.i('r%d' % to), m.typed()))
         w.live.add(to)
         c.fresh = [('α' + a.i, 'ℕ', 'α' + a.i) for a in self.lent]
         c.fresh += [('γ′' + a.i, 'GName', 'γ′' + a.i) for a in self.lent]
@@ -241,6 +248,13 @@ class Lending:
                    % (w.i('r%d' % to), c.local_types[to], c.at(to), known))
             m = Val(res, out, res.val(out), '(refl, %s-fits)' % out)
             c.fresh += [(out, res.den, out), (out + '-fits', '%s < 2 ^ %d' % (out, res.width), known + ' .1')]
+        elif res.fields:
+            at = '{0}.the-type {0}′.the-laws {1}'.format(res.alias, out)
+            w.emit('rewrite ! %d (λ (v : Val). ‵ (fat fullShare (%s) %s 0 v)) (ap only (LL.tells %s (%s ∷ []) %s)) refl $'
+                   % (w.i('r%d' % to), c.local_types[to], c.at(to), at, v, known))
+            m = Val(res, out, res.val(out), known)
+            c.fresh += [(out, res.den, out), (known, 'Is %s %s (%s ∷ [])' % (res.row, out, bare(m.v)),
+                                              'LL.owes %s (LL.owed %s (%s ∷ []) %s)' % (at, at, v, known))]
         elif res is not UNIT:
             c.fresh += [(out, res.den, out), (v, 'Val', v), (known, 'Is %s %s (%s ∷ [])' % (res.row, out, v), known)]
         c.val[to], c.mean[to] = m.v, m

@@ -1,165 +1,189 @@
-# The proof of a loop over slices that goes through elements 0 to k - 1: parameters are four lists and then k, the first
-# local after them is i. What all such walks have is here; each turn is written down in its description, statement by
-# statement, and the rest of the file stands in a template in which ⟪name⟫ marks the walks.
-import os
-
+# The proof of a loop that copies the first `count` records of one list to another, of which one is lent and the other an
+# array by value. What the two walks share is here; each turn is written down in its description, statement by statement.
 import mir
-from frame import ROOM_FITS
-from rows import Types
-from text import cons, sub, wrapped
+from caller import Caller, Lemma
+from lending import Lending
+from meaning import Val
+from rows import array, declared, uint
+from text import binders, par
 from walk import Walk
 
-TRIVIAL = '(tt, tt)'
-LISTS = range(4)
-COUNT, INDEX = 5, 6                       # the locals of k and i
+RECORD, RECORD_BYTES = declared('struct', 'T', 'terms::BucketRecord'), 12
+RECORDS, WORD = array(RECORD, 512), uint(64)
+TRIVIAL, LESS, THIS = '(tt, tt)', '(ltb→lt (i .0) count less)', '(this (i .0))'
+SHOWS = 'T.the-row (Is T.the-row) (shows 𝓤 H A T.the-row) (%s) (%s)' % (RECORD.vals, RECORD.tells)
+TURN = [('i', 'Upto'), ('less', 'Holds (ltb (i .0) count)')]
+
+COPIES = '''
+-- Record i, the records that are copied, and the list that they are copied to, after i turns.
+abbrev this : ℕ → BucketRecord
+this i = getD {source} i noRecord
+
+abbrev copied : List BucketRecord
+copied = take count {source}
+
+abbrev after : ℕ → List BucketRecord
+after i = front i copied {old}
+
+source-fits : count ≤ length {source}
+source-fits = {source_fits}
+
+old-fits : count ≤ length {old}
+old-fits = {old_fits}
+
+copied-long : length copied ≡ count
+copied-long = length-take-le count {source} source-fits
+
+after-next : (i : ℕ) → i < count → set (after i) i (this i) ≡ after (i + 1)
+after-next i l =
+    ap (λ (x : BucketRecord). set (after i) i x) (sym (getD-take count {source} i noRecord l))
+    ∙ next-front i copied {old} noRecord (subst (λ (n : ℕ). i < n) (sym copied-long) l) (lt-of-lt-of-le l old-fits)
+
+-- The index, the one after it, and the place of a record fit in a word.
+index-fits : (i : ℕ) → i ≤ count → i < 2 ^ 64
+index-fits i l = lt-of-le-of-lt l count-fits
+
+more-fits : (i : ℕ) → i < count → i + 1 < 2 ^ 64
+more-fits i l = index-fits (i + 1) (add-one-le l)
+
+place-fits : (i : ℕ) → i < count → i * {bytes} < 2 ^ 64
+place-fits i l = omega (arith, room₀ .1, l, le .0)
+
+-- What changes from turn to turn. The loop's variant is i.
+abbrev Upto : Type 0
+Upto = {upto}
+
+abbrev Nearer : Upto → Upto → Type 0
+Nearer j i = count - j .0 < count - i .0
+
+Nearer-wf : WellFounded Nearer
+Nearer-wf = InvImage·wf (λ (i : Upto). count - i .0) (Nat·lt-wfRel .wf)
+
+{own}
+'''
+
+TURNS = '''
+abbrev At : Upto → List (Item 𝓤)
+At i = {at}
+
+abbrev Turned : Upto → Out → SProp 𝓤
+Turned i = afterTurn 𝓤 H (Below 𝓤 H A Nearer At i) (afterBlock 𝓤 H (afterSeq 𝓤 H (Wp 𝓤 H C Λ E {then} (atReturn 𝓤 H E Post)) (atReturn 𝓤 H E Post)))
+
+turns : (i : Upto) → Sq W (At i) (runs C Λ E mir.turn-1 (anyQ (Turned i)))
+unfolding afterTurn
+turns i =
+{tested}
+    tests ! (load ! (from ! (stop !)) (look ! {test} refl)) (λ less.
+{more})
+    (λ over.
+{over})
+'''
 
 
-def fits(proof):
-    return 'record { fits = %s }' % proof
+def stripped(text):
+    return '\n'.join('    ' + line.strip() for line in text.split('\n'))
 
 
-class Loop:
-    """A description gives `lists`: what the context holds of each list on entry, a pair where its borrow is to be
-    opened; `TEST`, the local of the loop's condition; `LEFT`, what the context holds after the loop; `walks`, which sets
-    `invariant` and gives the `parts`; and the walks `turn`, `closed` (the borrows after the loop), `exits` and `opened`."""
+class Loop(Caller):
+    """A description gives COPY: the `source`, the `old` list that is copied over, that each has `count` records, what
+    changes from turn to turn (`upto`), and `own` lemmas about it; the locals COUNT, INDEX, TEST, OFFSET and PLACE; THEN,
+    the statement after the loop; HELD, what the context holds of the lent list in the loop, and LEFT, at the end, in
+    `held` and `left` with what it says; SHARED, variables over all turns; `looping`, what the locals hold in a turn;
+    and the walks `starts`, `turn`, `leaves` and `exits`."""
 
-    lists = ()
+    LENDS, SHARED, statements_of = False, [], staticmethod(lambda f: mir.calls(f.body))
 
-    def __init__(self, crate, name, types):
-        self.crate, self.mods, self.name, self.types = crate, name.split('.'), name.split('.')[-1], Types(types)
-
-    def read(self):
-        f = mir.function(self.crate, '::'.join([self.crate] + self.mods))
-        self.n, self.local_types = len(f.locals), [self.types.text(t) for t in f.locals]
-        self.ls = ' '.join('l' + sub(k) for k in range(self.n))
-        self.cells = [a + str(k) for a in 'rd' for k in range(self.n)]
-
-    def at(self, values):
-        """What the context says of each local: those with a value, and room for the others."""
-        out = {}
-        for k, t in enumerate(self.local_types):
-            out['d%d' % k], out['r%d' % k] = 'fdies (%s) l%s' % (t, sub(k)), 'froom (%s) l%s 0' % (t, sub(k))
-            if k in values:
-                out['r%d' % k] = 'fat fullShare (%s) l%s 0 (%s)' % (t, sub(k), values[k])
-        return out
-
-    def values(self, i):
-        return {**{j + 1: 's' + sub(j) for j in LISTS}, COUNT: 'vint w64 k', INDEX: 'vint w64 ' + i}
-
-    @staticmethod
-    def context(names, entries):
-        return cons('‵ (%s)' % entries[n] for n in names)
-
-    def walk(self, ctx, live=()):
-        w = Walk(ctx, self.n)
-        w.live = set(live)
-        return w
+    def __init__(self, name, comment, params, calls, ensures, uses):
+        super().__init__('record_list', 'copies.' + name, comment, params, [RECORD], calls, ensures,
+                         ('le', '(count ≤ length list) × (count ≤ traceLimit)'), uses,
+                         COPIES.format(bytes=RECORD_BYTES, **self.COPY))
 
     # ---- the parts of a walk
-    def parts(self, before, begin, inv, end, opened):
-        """Each walk of the file by its mark. What the context holds: `begin` before the loop, `inv` at turn i, `end` after
-        the loop; `opened` is the lemma by which the loop is entered."""
-        w = self.walk(self.invariant, range(1, INDEX + 1))
-        w.bin(self.TEST, w.loc(INDEX), w.loc(COUNT), 'tt', TRIVIAL)
-        return {'AT': self.context(self.invariant, inv), 'TEST': str(w.i('r%d' % self.TEST)),
-                'PRE': w.text('').rstrip(), 'MORE': self.turn(self.walk(w.ctx, w.live)),
-                'ENDS': self.leaves(self.walk(w.ctx, w.live)),
-                'EXL': self.context(self.LEFT, end), 'EXITS': self.exits(), 'OPENED': self.opened(before),
-                'BEFORE': self.context(before, {**begin, **self.at(self.values('0'))}),
-                'WALK': self.entry(before).text('%s %s' % (opened, self.ls))}
+    def begun(self, ctx, live):
+        """The walk from here."""
+        self.w = Walk(ctx, self.n)
+        self.w.live = set(live)
+        return self.w
 
-    def entry(self, before):
-        """From the function's beginning to the loop, where the context is `before`."""
-        w = self.walk(['toks', 'owns'])
-        w.move('owns')
-        for names in self.lists:
-            opened = isinstance(names, tuple)
-            w.emit('fsplit ! $ fsplit3 ! $ drop ! $' if opened else 'fsplit ! $')
-            w.head(1, *(names if opened else [names]), 'owns')
-            w.move('owns')
-        w.drop('owns')
-        for j in LISTS:
-            w.split('toks', 't%d' % j, 'toks')
-        w.keep(*[n for n in before if n not in self.cells])
-        passed = cons(['s' + sub(j) for j in LISTS] + ['vint w64 k'])
-        w.enter('(𝓣 .C) (𝓣 .Λ)', passed, ['l' + sub(k) for k in range(self.n)])
-        for j in LISTS:
-            w.emit('pass1 ! (init ! %d refl %s) $' % (w.i('r%d' % (j + 1)), ROOM_FITS % ('room%s .0' % sub(j))))
-        w.emit('pass1 ! (init ! %d refl (tt, %s)) $ pass0 ! $' % (w.i('r%d' % COUNT), fits('k-fits')))
-        w.live = set(range(1, COUNT + 1))
-        w.copy(INDEX, '(lit ! tt)', '(tt, %s)' % fits('lit< tt'))
-        w.keep(*before)
-        return w
+    def call(self, number, over=()):
+        """The call of this number."""
+        self.lemma = Lemma(None, None, None)
+        Lending(self, self.calls[number], self.body[number], over).walk()
+        self.before += self.lemma.before
+        return self.mean[self.body[number].to]
 
-    def pointer(self, w, to, offset, j, size, small):
-        """Local `to` becomes the place of element i of list j, whose elements have `size` bytes."""
-        w.bin(offset, w.loc(INDEX), '(lit ! tt)', '(%s)' % fits(small), '(tt, %s)' % fits(small))
-        w.bin(to, w.fld(j + 1, 0), w.loc(offset), 'tt', TRIVIAL)
-        w.emit('rewrite ! {0} (λ (p : ℕ). ‵ (fat fullShare tyPtr l{1} 0 (vptr b{2} p))) '
-               '(sym (place-is {3} o{2} (i .0))) refl $'.format(w.i('r%d' % to), sub(to), sub(j), size))
+    def first_index(self):
+        self.w.copy(self.INDEX, '(lit ! tt)', '(tt, record { fits = lit< tt })')
 
-    def next_turn(self, w, invariant):
+    def pointer(self):
+        """The place of element i of the list."""
+        w, small = self.w, 'record { fits = place-fits (i .0) %s }' % LESS
+        w.bin(self.OFFSET, w.loc(self.INDEX), '(lit ! tt)', '(%s)' % small, '(tt, %s)' % small)
+        w.bin(self.PLACE, w.fld(1, 0), w.loc(self.OFFSET), 'tt', TRIVIAL)
+        w.emit('rewrite ! %d (λ (p : ℕ). ‵ (fat fullShare tyPtr %s 0 (vptr b₀ p))) (sym (place-is %d o₀ (i .0))) refl $'
+               % (w.i('r%d' % self.PLACE), self.at(self.PLACE), RECORD_BYTES))
+
+    def looped(self, of, start):
+        self.w.keep(*self.invariant)
+        last = 'first ! $ blocks ! $ loops ! 𝓣 Nearer Nearer-wf {0} {1} {2}'
+        return self.w.text(last.format(par('At' + of), par('turns' + of), par(start)))
+
+    def again(self, following):
         """i is one more, and what the turn used is forgotten."""
-        more = fits('fits (next less)')
-        w.bin(INDEX, w.loc(INDEX), '(lit ! tt)', '(%s)' % more, '(tt, %s)' % more, last=True)
-        for k in range(INDEX + 1, self.n):
+        w, more = self.w, 'record { fits = more-fits (i .0) %s }' % LESS
+        w.bin(self.INDEX, w.loc(self.INDEX), '(lit ! tt)', '(%s)' % more, '(tt, %s)' % more, last=True)
+        for k in sorted(w.live - self.kept):
             w.forget(k)
-        w.move(*invariant)
-        return w.text('again ! Nearer At i (next less) (add-one-dec k (i .0) (ltb→lt (i .0) k less))')
+        w.move(*self.invariant)
+        return w.text('again ! Nearer At i (%s) (add-one-dec count (i .0) %s)' % (following, LESS))
 
-    def closes(self, w, j, row, old, now, long, item):
-        """After the loop the borrow of list j is closed; `item` says of its row at i what is so at k."""
-        w.move(*[n % j for n in ('row%d', 'obor%d', 'obs%d', 'auth%d')])
-        w.emit('rewrite ! 0 (λ (j : ℕ). ‵ (%s)) (le-antisymm (i .1) (nltb→le (i .0) k over)) refl $' % item)
-        w.emit('closes-slice ! tt %s %s (%s) %s b%s o%s $' % (row, old, now, long, sub(j), sub(j)))
-        w.head(4, 'obs%d' % j, 'bor%d' % j, 't%d' % j)
+    def left_at(self, last):
+        """The locals are freed; the rest is the lemma of the end."""
+        self.w.ret()
+        self.w.keep(*self.LEFT)
+        return self.w.text('by ! ' + par(last))
 
-    def leaves(self, w):
-        """From the test that fails to the function's end."""
-        w.emit('exec ! C Λ En mir.t-3 (atRet En Post) $')
-        self.closed(w)
-        w.copy(0, '(unit-lit !)', TRIVIAL)
-        w.ret()
-        w.keep(*self.LEFT)
-        return w.text('by ! exits')
+    def slice_back(self, value, parts, known):
+        """The parts of the list are its slice again."""
+        self.w.move(*parts)
+        self.w.emit('fjoin ! $ pureI ! (at-slice T.the-row %s (s₀ ∷ [])) (tt, (tt, tt)) %s $ fjoin ! $' % (value, known))
+        self.w.head(2, 'P1')
 
-    def leaving(self):
-        """What is left after the loop, the tokens framed."""
-        w = self.walk(self.LEFT)
-        w.nil()
-        w.joins(['t%d' % j for j in LISTS] + ['nil'], 'join', 'toks')
-        w.emit('frame ! $')
-        w.head(1)
-        return w
-
-    def slice_back(self, w, j, row, value, parts, known):
-        """The parts of a list are its slice again."""
-        w.move(*parts)
-        w.emit('fjoin ! $ pureI ! (at-slice %s %s (s%s ∷ [])) (tt, (tt, tt)) %s $ fjoin ! $'
-               % (row, value, sub(j), known))
-
-    @staticmethod
-    def changed(j, row, long):
-        """That the slice of a list that was changed is the one that was lent."""
-        same = '(ap (λ (m : ℕ). sliceVal (b{0}, o{0}) m ∷ []) (sym {2}), subst (Room {1}) (sym {2}) room{0})'
-        return same.format(sub(j), row, long)
-
-    def ended(self, w):
-        w.emit('feqI ! (List Val) (vunit ∷ []) (vunit ∷ []) refl $')
-        w.head(0, 'unit')
-        w.move('has', 'unit')
-        return w.text('done !')
-
-    def looped(self, w, over):
-        last = 'first ! $ blocks ! $ loops ! 𝓣 Nearer Nearer-wf (At {0} {1}) (turns {0} {1}) (0, zero-le)'
-        return w.text(last.format(over, self.ls))
+    def ended(self, result, last):
+        self.frame.exits(self.w, {self.params[0]: 'P1'}, result, last, self.ensures)
+        return self.w.text('done !')
 
     # ---- the file
-    def text(self):
+    def walk_text(self):
         self.read()
-        here = os.path.join(os.path.dirname(os.path.abspath(__file__)), 'descriptions', self.name + '.txt')
-        out, env = open(here).read(), cons('(%s, l%s)' % (t, sub(k)) for k, t in enumerate(self.local_types))
-        for mark, text in {'ls': self.ls, 'ENV': env, **self.walks()}.items():
-            out = out.replace('⟪%s⟫' % mark, text)
-        assert '⟪' not in out
-        return wrapped(out.rstrip('\n').split('\n'))
+        self.before, begin = [], self.frame.begin(self.n)
+        self.invariant = self.HELD + [a + str(k) for a in 'rd' for k in range(self.n)]
+        entry = self.items(begin)
+        self.begun(begin, self.val)
+        start = self.starts()
+        index = '(i .0)'
+        self.val[self.INDEX] = WORD.val(index)
+        self.mean[self.INDEX] = Val(WORD, index, self.val[self.INDEX], '(refl, index-fits (i .0) (i .1))')
+        self.looping()
+        self.entries.update(self.held())
+        self.kept, parts = set(self.val), {'at': self.items(self.invariant)}
+        w = self.begun(self.invariant, self.val)
+        w.bin(self.TEST, w.loc(self.INDEX), w.loc(self.COUNT), 'tt', TRIVIAL)
+        parts['test'], parts['tested'] = w.i('r%d' % self.TEST), stripped(w.text('').rstrip())
+        self.begun(w.ctx, w.live)
+        parts['over'] = stripped(self.leaves())
+        self.begun(w.ctx, w.live)
+        parts['more'] = stripped(self.turn())
+        turns = TURNS.format(then=self.THEN, **parts).strip('\n').split('\n')
+        if self.SHARED:
+            turns = ['module _ %s where' % binders(self.SHARED)] + ['  ' + line if line else '' for line in turns]
+        out = self.before + self.end_text() + turns + [
+            '', 'starting : Sq W (%s) (runs C Λ E mir.t-1 (atRet E Post))' % entry, 'starting =', stripped(start), '']
+        return ['      ' + line if line else '' for line in '\n'.join(out).split('\n')], 'starting'
+
+    def end_text(self):
+        self.entries.update(self.left())
+        self.begun(self.LEFT, [])
+        context, over, value = self.items(self.LEFT), self.OVER, self.RESULT
+        lines = ['exits : %sent 𝓤 (⋆ 𝓤 H A (%s)) (Post %s)' % (over, context, value)]
+        return lines + ['exits%s =' % self.BOUND, '    qed W (%s) ∵' % context, stripped(self.exits()), '']

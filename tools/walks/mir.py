@@ -7,7 +7,8 @@ from functools import lru_cache
 
 ROOT = os.path.dirname(os.path.dirname(os.path.dirname(os.path.abspath(__file__))))
 
-Function = namedtuple('Function', 'lifetimes params locals body')    # two numbers, the locals' types, the body
+# Two numbers, the locals' types, the types of each struct's fields by its path, the body.
+Function = namedtuple('Function', 'lifetimes params locals fields body')
 Assign = namedtuple('Assign', 'to value')                            # a local and one of the next five
 Lit = namedtuple('Lit', 'width value')
 Copy = namedtuple('Copy', 'local fields')
@@ -50,7 +51,8 @@ def function(crate, name):
     for f in items(program(crate)[1]):
         if f[1].strip('"') == name:
             _, lifetimes, _, params, kept, body = f[2]
-            return Function(int(lifetimes), int(params), [x[1] for x in items(kept)], body)
+            fields = {x[1].strip('"'): items(x[2][1]) for x in items(f[3]) if x[2][0] == 'fields'}
+            return Function(int(lifetimes), int(params), [x[1] for x in items(kept)], fields, body)
     raise SystemExit('no function ' + name)
 
 
@@ -90,6 +92,13 @@ def statement(s):
 
 def statements(f):
     return [statement(s) for s in flat(f.body)]
+
+
+def calls(body):
+    """The calls of any body, in order."""
+    if not isinstance(body, list):
+        return []
+    return [statement(body)] if body[0] == 'call' else [s for part in body for s in calls(part)]
 
 
 def reads(s):

@@ -25,6 +25,11 @@ def bare(s):
     return s[1:-1] if s[0] == '(' and closes(s) else s
 
 
+def quoted(name):
+    """A field's name as proofs write it."""
+    return '«%s»' % name if '_' in name else name
+
+
 def nest(xs):
     """A tuple of any length: pairs that end in tt."""
     out = 'tt'

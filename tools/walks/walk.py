@@ -1,4 +1,14 @@
 # A walk's text: it follows the context by names and writes the positions.
+from text import par, sub
+
+
+def cell(name, types, values):
+    """What the context says of local K of these types: dK that it dies, rK its value, or its room where it has none."""
+    k = int(name[1:])
+    ty, at = par(types[k]), 'l' + sub(k)
+    if name[0] == 'd':
+        return 'fdies %s %s' % (ty, at)
+    return 'fat fullShare %s %s 0 %s' % (ty, at, par(values[k])) if k in values else 'froom %s %s 0' % (ty, at)
 
 
 class Walk:
@@ -58,6 +68,11 @@ class Walk:
     def nil(self):
         self.emit('nothing ! $')
         self.head(0, 'nil')
+
+    def frame(self, name):
+        self.move(name)
+        self.emit('frame ! $')
+        self.head(1)
 
     def joins(self, names, rule, out):
         """The entries joined to one, from the right."""

@@ -11,7 +11,7 @@ use arrays::read_in;
 use arrays::series_in;
 use arrays::write_in;
 use encoding::FillAnswer;
-use plans::PlanFigures;
+use lent_plans::PlanFigures;
 use samples::lists::ENTRIES;
 use samples::lists::at_most;
 use terms::BucketRecord;

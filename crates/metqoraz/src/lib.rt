@@ -36,15 +36,19 @@ pub use meter::open_meter;
 // The smallest depth at a rate, the cheapest bucket, and the cheapest series of buckets.
 pub use depth::DepthAnswer;
 pub use depth::depth_at;
-pub use plans::Plan;
-pub use plans::SeriesAnswer;
-pub use plans::series;
+pub use lent_plans::Plan;
+pub use lent_plans::SeriesAnswer;
+pub use lent_plans::series;
 pub use single::Priced;
 pub use single::SingleAnswer;
 pub use single::single;
 
 // The two files, and room for the longest.
 pub use encoding::FillAnswer;
+pub use lent_plans::PlanAnswer;
+pub use lent_plans::PlanFigures;
+pub use lent_plans::read_plan;
+pub use lent_plans::write_plan;
 pub use order_file::LONGEST_ORDER;
 pub use order_file::Order;
 pub use order_file::OrderAnswer;
@@ -53,10 +57,6 @@ pub use order_file::spread;
 pub use order_file::trace_part;
 pub use order_file::write_order;
 pub use plan_file::LONGEST_PLAN;
-pub use plans::PlanAnswer;
-pub use plans::PlanFigures;
-pub use plans::read_plan;
-pub use plans::write_plan;
 
 // From an order file to a plan that is recorded and metered.
 pub use booking::Booking;

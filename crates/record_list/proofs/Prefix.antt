@@ -11,6 +11,7 @@
 --     array-out        the elements are the local's cell again, at some value that is such an array:
 --                      it can be loaded whole
 --     field-is         an array of a declared type is one where it is a field of a struct
+--     field-was        and the other way round
 -- Assumes `Given`.
 use mathlib.Core.Path.{_≡_, refl, sym, _∙_, ap, subst}
 use Prim.Native.Nat.{ℕ, zero, _≤_, _+_, _-_}
@@ -69,8 +70,17 @@ each-field to f [] (u ∷ us) s = absurd s
 each-field to f (x ∷ xs) [] s = absurd s
 each-field to f (x ∷ xs) (u ∷ us) s = (s .0, each-field to f xs us (s .1))
 
+each-element : {D X : Type 0} (to : D → X) (f : X → List Val → Fml) (xs : List D) (us : List Val) → shadow (each X f (map to xs) us) → shadow (each D (λ d. f (to d)) xs us)
+each-element to f [] [] s = tt
+each-element to f [] (u ∷ us) s = absurd s
+each-element to f (x ∷ xs) [] s = absurd s
+each-element to f (x ∷ xs) (u ∷ us) s = (s .0, each-element to f xs us (s .1))
+
 pub field-is : (T : Declared) (n : ℕ) (xs : List (T .D)) (vs : List Val) → Is (Array (row-of T) n) xs vs → Is (array-field (field T) n .row) (map (T .to) xs) vs
 field-is T n xs vs p = (p .0, ((p .1 .0 .0, length-map xs (T .to) ∙ p .1 .0 .1), each-field (T .to) (field T .row .own) xs (p .0) (p .1 .1)))
+
+pub field-was : (T : Declared) (n : ℕ) (xs : List (T .D)) (vs : List Val) → Is (array-field (field T) n .row) (map (T .to) xs) vs → Is (Array (row-of T) n) xs vs
+field-was T n xs vs p = (p .0, ((p .1 .0 .0, sym (length-map xs (T .to)) ∙ p .1 .0 .1), each-element (T .to) (field T .row .own) xs (p .0) (p .1 .1)))
 
 module _ {M : Type 1} (𝓤 : URA M) (H : Heap 𝓤) (A : Atoms 𝓤) (W : Given 𝓤 H A) (R : RattleType) (n b : ℕ) where
   abbrev ⟦_⟧ : Fml → SProp 𝓤

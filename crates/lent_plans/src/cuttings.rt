@@ -1,14 +1,13 @@
 // The series of buckets: the call that planners use.
 use record_list::copies::store_records;
 use series::SeriesAnswer;
-use series::lists::plan_lists;
+use series::planner::plan_series;
 use terms::BucketRecord;
 use terms::Tariff;
-use terms::limits::TRACE_LIMIT;
 ghost use mathlib.Core.Path.{_≡_};
 ghost use lib.ListN.{length};
 ghost use Rattle.terms.specs.Lent.{filled};
-ghost use Rattle.record_list.specs.Lists.{counted};
+ghost use Rattle.record_list.specs.Held.{counted};
 ghost use Rattle.series.specs.Series.{planOf, seriesOf, seriesSays};
 
 // Cuts the trace into runs with a bucket each, at the least cost; equal costs go to fewer buckets
@@ -19,20 +18,10 @@ pub fn series(trace: &[u16], tariff: Tariff, list: &mut [BucketRecord]) -> Serie
     ensures { λ r. ⌜ (seriesSays r ≡ planOf tariff (seriesOf tariff (length (now (list .entry))) (now (trace .entry))))
         × (now (list .exit) ≡ filled (seriesOf tariff (length (now (list .entry))) (now (trace .entry))) (now (list .entry))) ⌝ }
 {
-    let mut runs = [0u32; TRACE_LIMIT];
-    let mut rates = [0u32; TRACE_LIMIT];
-    let mut depths = [0u32; TRACE_LIMIT];
-    let answer = plan_lists(
-        trace,
-        tariff,
-        list.len(),
-        &mut runs,
-        &mut rates,
-        &mut depths,
-    );
-    let count = buckets_of(answer);
-    store_records(list, &runs, &rates, &depths, count);
-    answer
+    let planned = plan_series(trace, tariff, list.len());
+    let count = buckets_of(planned.answer);
+    store_records(list, planned.records, count);
+    planned.answer
 }
 
 // The number of buckets; none on a refusal.

@@ -2,8 +2,8 @@
 use encoding::FillAnswer;
 use plan_file::PlanAnswer;
 use plan_file::PlanFigures;
-use plan_file::lists::read_lists;
-use plan_file::lists::write_lists;
+use plan_file::reading::read_records;
+use plan_file::writing::write_records;
 use record_list::copies::load_records;
 use record_list::copies::store_records;
 use terms::BucketRecord;
@@ -14,7 +14,7 @@ ghost use lib.ListN.{length};
 ghost use Rattle.terms.specs.Answer.{onFigures};
 ghost use Rattle.terms.specs.Lent.{filled};
 ghost use Rattle.encoding.specs.Fill.{fillSays};
-ghost use Rattle.record_list.specs.Lists.{counted};
+ghost use Rattle.record_list.specs.Held.{counted};
 ghost use Rattle.plan_file.specs.CallLaws.{loadCount};
 ghost use Rattle.plan_file.specs.Plan.{bucketsOf, recordedFigures, planSays, readPlan, VeryPlan, writePlan};
 
@@ -26,13 +26,10 @@ pub fn read_plan(bytes: &[u8], list: &mut [BucketRecord]) -> PlanAnswer
         × (now (list .exit) ≡ filled (bucketsOf (readPlan (length (now (list .entry))) (now (bytes .entry)))) (now (list .entry)))
         × VeryPlan (now (bytes .entry)) (readPlan (length (now (list .entry))) (now (bytes .entry))) ⌝ }
 {
-    let mut runs = [0u32; TRACE_LIMIT];
-    let mut rates = [0u32; TRACE_LIMIT];
-    let mut depths = [0u32; TRACE_LIMIT];
-    let answer = read_lists(bytes, list.len(), &mut runs, &mut rates, &mut depths);
-    let count = buckets_of(answer);
-    store_records(list, &runs, &rates, &depths, count);
-    answer
+    let found = read_records(bytes, list.len());
+    let count = buckets_of(found.answer);
+    store_records(list, found.records, count);
+    found.answer
 }
 
 // The number of buckets; none on a refusal.
@@ -52,12 +49,9 @@ pub fn write_plan(plan: PlanFigures, list: &[BucketRecord], bytes: &mut [u8]) ->
     ensures { λ r. ⌜ (fillSays r ≡ onFigures length (writePlan (length (now (bytes .entry))) plan (now (list .entry))))
         × (now (bytes .exit) ≡ filled (writePlan (length (now (bytes .entry))) plan (now (list .entry))) (now (bytes .entry))) ⌝ }
 {
-    let mut runs = [0u32; TRACE_LIMIT];
-    let mut rates = [0u32; TRACE_LIMIT];
-    let mut depths = [0u32; TRACE_LIMIT];
     let count = load_count(plan, list.len());
-    load_records(list, &mut runs, &mut rates, &mut depths, count);
-    write_lists(plan, list.len(), &runs, &rates, &depths, bytes)
+    let records = load_records(list, count);
+    write_records(plan, list.len(), records, bytes)
 }
 
 // The records to be loaded: as many as buckets, but no more than the list or the longest plan has.
