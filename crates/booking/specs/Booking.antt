@@ -7,10 +7,10 @@ use Rattle.terms.specs.Answer.{Answer, figures, onFigures, andThen}
 use Rattle.terms.specs.Lent.{filled}
 use Rattle.terms.specs.Records.{Cutting}
 use Rattle.series.specs.Series.{trueCost}
-use Rattle.plan_file.specs.declared.plans.PlanFigures.{PlanFigures}
+use Rattle.plan_file.specs.declared.answers.PlanFigures.{PlanFigures}
 use Rattle.plan_file.specs.Plan.{writePlan}
 use Rattle.planning.specs.Planning.{Planned, planned}
-use Rattle.recording.specs.declared.plans.Booking.{Booking}
+use Rattle.recording.specs.declared.recorded.Booking.{Booking}
 use Rattle.recording.specs.Recording.{Recording, recording, bookingOf}
 
 -- ---- What is lent, as it is at one moment

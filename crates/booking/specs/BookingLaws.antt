@@ -31,7 +31,7 @@ use Rattle.order_file.specs.OrderRules.{read-rules, part-read, length-demands}
 use Rattle.order_file.specs.OrderedLaws.{spread-demands, ordered-as}
 use Rattle.plan_file.specs.PlanRules.{CountsRange}
 use Rattle.plan_file.specs.RecordLaws.{RecordsRange}
-use Rattle.record_list.specs.ListLaws.{noRecord}
+use Rattle.record_list.specs.Held.{noRecord}
 use Rattle.planning.specs.Planning.{Planned}
 use Rattle.planning.specs.PlannedLaws.{IsPlanned, planned-cheapest, carried-sum, carried-some, served-range}
 use Rattle.recording.specs.Recording.{metersOf}

@@ -14,7 +14,7 @@ use Rattle.encoding.specs.Number.{numberAt, itemsAt}
 use Rattle.order_file.specs.declared.orders.Order.{Order}
 use Rattle.order_file.specs.Order.{traceOffset, tariffIn, orderIn, readOrder, OrderRules}
 use Rattle.plan_file.specs.Plan.{planIn, planLength}
-use Rattle.recording.specs.declared.plans.Booking.{Booking}
+use Rattle.recording.specs.declared.recorded.Booking.{Booking}
 use Rattle.recording.specs.Recording.{metersOf}
 use Rattle.booking.specs.Booking.{Lent, Steps, booked, answerOf, lentAfter}
 

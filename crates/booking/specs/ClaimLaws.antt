@@ -29,7 +29,7 @@ use Rattle.plan_file.specs.Plan.{planFile, planIn}
 use Rattle.plan_file.specs.PlanRules.{read-holds}
 use Rattle.planning.specs.Planning.{Planned, plannedRuns}
 use Rattle.planning.specs.PlannedLaws.{IsPlanned, is-planned}
-use Rattle.recording.specs.declared.plans.Booking.{Booking}
+use Rattle.recording.specs.declared.recorded.Booking.{Booking}
 use Rattle.recording.specs.Recording.{recording}
 use Rattle.booking.specs.Booking.{Lent, Steps, plannedFor, planFigures, recordingFor, booked, answerOf, lentAfter}
 use Rattle.booking.specs.BookingLaws.{order-demands, planned-series}

@@ -16,7 +16,7 @@ use Rattle.order_file.specs.declared.orders.Order.{Order}
 use Rattle.order_file.specs.Order.{traceOffset, tariffIn, readOrder}
 use Rattle.order_file.specs.OrderRules.{read-rules}
 use Rattle.plan_file.specs.Plan.{longestPlan}
-use Rattle.recording.specs.declared.plans.Booking.{Booking}
+use Rattle.recording.specs.declared.recorded.Booking.{Booking}
 use Rattle.booking.specs.Booking.{Lent}
 use Rattle.booking.specs.Claim.{periodsIn, IsSeriesAnswer, LongEnough, Demand3, Claim}
 

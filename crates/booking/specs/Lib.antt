@@ -5,5 +5,5 @@ pub mod BookingLaws
 pub mod CallLaws
 pub mod StepLaws
 pub mod ClaimLaws
-pub mod BookedLists
+pub mod RecordLaws
 pub mod EnoughLaws

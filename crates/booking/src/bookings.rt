@@ -1,11 +1,10 @@
 // The call that planners use: from an order file to a recorded plan.
-use crate::lists::book_lists;
+use crate::records::book_records;
 use record_list::copies::store_records;
 use recording::BookingAnswer;
 use terms::BucketRecord;
-use terms::limits::TRACE_LIMIT;
 ghost use mathlib.Core.Path.{_≡_};
-ghost use Rattle.record_list.specs.Lists.{counted};
+ghost use Rattle.record_list.specs.Held.{counted};
 ghost use Rattle.recording.specs.Recording.{bookingSays};
 ghost use Rattle.booking.specs.Booking.{lent};
 ghost use Rattle.booking.specs.Claim.{Claim};
@@ -27,29 +26,11 @@ pub fn book(
         (lent (now (demands .exit)) (now (plan .exit)) (now (bytes .exit)) (now (back .exit)))
         (bookingSays r) ⌝ }
 {
-    let mut runs = [0u32; TRACE_LIMIT];
-    let mut rates = [0u32; TRACE_LIMIT];
-    let mut depths = [0u32; TRACE_LIMIT];
-    let mut back_runs = [0u32; TRACE_LIMIT];
-    let mut back_rates = [0u32; TRACE_LIMIT];
-    let mut back_depths = [0u32; TRACE_LIMIT];
-    let answer = book_lists(
-        order,
-        demands,
-        plan.len(),
-        &mut runs,
-        &mut rates,
-        &mut depths,
-        bytes,
-        back.len(),
-        &mut back_runs,
-        &mut back_rates,
-        &mut back_depths,
-    );
-    let count = buckets_of(answer);
-    store_records(plan, &runs, &rates, &depths, count);
-    store_records(back, &back_runs, &back_rates, &back_depths, count);
-    answer
+    let booked = book_records(order, demands, plan.len(), bytes, back.len());
+    let count = buckets_of(booked.answer);
+    store_records(plan, booked.plan, count);
+    store_records(back, booked.back, count);
+    booked.answer
 }
 
 // The number of buckets; none on a refusal.

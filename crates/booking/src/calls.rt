@@ -1,61 +1,72 @@
-// The list of calls that books an order, on number lists that hold the figures of the records. Public
-// only for this crate, which lends lists of its own and shows what is required.
+// The list of calls that books an order. Public only for this crate.
 use plan_file::PlanFigures;
-use planning::orders::PlannedAnswer;
-use planning::orders::plan_order;
+use planning::planned_orders::PlannedAnswer;
+use planning::planned_orders::plan_order;
 use recording::BookingAnswer;
-use recording::plans::record_plan;
+use recording::recorded::record_plan;
+use terms::BucketRecord;
+use terms::limits::TRACE_LIMIT;
 ghost use lib.ListN.{length};
-ghost use Rattle.record_list.specs.Lists.{Wide, lists};
-ghost use Rattle.recording.specs.Recording.{bookingSays};
-ghost use Rattle.booking.specs.CallLaws.{Called, lentLists, sizes};
+ghost use Rattle.booking.specs.CallLaws.{Called, sizes};
 
-// The whole list of calls, for lists of `room` and of `space` records.
+// The answer with the demands of an order that is read, the records of the plan found and those read
+// back.
+pub struct BookedRecords {
+    pub answer: BookingAnswer,
+    pub demands: [u16; TRACE_LIMIT],
+    pub plan: [BucketRecord; TRACE_LIMIT],
+    pub back: [BucketRecord; TRACE_LIMIT],
+}
+
+// The whole list of calls, for a list of `entries` demands and lists of `room` and of `space` records.
+// A refusal to plan has no records.
 pub fn make_calls(
     order: &[u8],
-    demands: &mut [u16],
+    entries: usize,
     room: usize,
-    runs: &mut [u32],
-    rates: &mut [u32],
-    depths: &mut [u32],
     bytes: &mut [u8],
     space: usize,
-    back_runs: &mut [u32],
-    back_rates: &mut [u32],
-    back_depths: &mut [u32],
-) -> BookingAnswer
-    requires { ⌜ Wide (now runs) (now rates) (now depths) ⌝ }
-    requires { ⌜ Wide (now «back_runs») (now «back_rates») (now «back_depths») ⌝ }
-    ensures { λ r. ⌜ Called (now (order .entry)) (sizes (length (now (demands .entry))) room (length (now (bytes .entry))) space)
-        (lentLists (now (demands .entry)) (lists (now (runs .entry)) (now (rates .entry)) (now (depths .entry)))
-        (now (bytes .entry)) (lists (now («back_runs» .entry)) (now («back_rates» .entry)) (now («back_depths» .entry))))
-        (lentLists (now (demands .exit)) (lists (now (runs .exit)) (now (rates .exit)) (now (depths .exit)))
-        (now (bytes .exit)) (lists (now («back_runs» .exit)) (now («back_rates» .exit)) (now («back_depths» .exit))))
-        (bookingSays r) ⌝ }
+) -> BookedRecords
+    ensures { λ r. ⌜ Called (now (order .entry)) (sizes entries room (length (now (bytes .entry))) space)
+        (now (bytes .entry)) (now (bytes .exit)) r ⌝ }
 {
-    let found = match plan_order(order, demands, room, runs, rates, depths) {
+    let planned = plan_order(order, entries, room);
+    let answer = planned.answer;
+    let demands = planned.demands;
+    let plan = planned.records;
+    let found = match answer {
         PlannedAnswer::Found(x) => x,
-        PlannedAnswer::Refused(why) => return BookingAnswer::Refused(why),
+        PlannedAnswer::Refused(why) => {
+            return BookedRecords {
+                answer: BookingAnswer::Refused(why),
+                demands,
+                plan,
+                back: plan,
+            };
+        }
     };
-    let plan = PlanFigures {
+    let figures = PlanFigures {
         periods: found.order.periods,
         buckets: found.plan.buckets,
         cost: found.plan.cost,
     };
     let factor = found.order.tariff.factor;
     let periods = found.order.periods as usize;
-    record_plan(
-        plan,
+    let recorded = record_plan(
+        figures,
         factor,
         &demands[..periods],
         room,
-        runs,
-        rates,
-        depths,
+        plan,
         bytes,
         space,
-        back_runs,
-        back_rates,
-        back_depths,
-    )
+    );
+    let answer = recorded.answer;
+    let back = recorded.records;
+    BookedRecords {
+        answer,
+        demands,
+        plan,
+        back,
+    }
 }

@@ -2,7 +2,7 @@
 // in one call.
 mod bookings;
 mod calls;
-mod lists;
+mod records;
 
 pub use bookings::book;
 pub use recording::Booking;

@@ -114,6 +114,23 @@ module _ (bs : List ℕ) (space room : ℕ) (trace : List ℕ) (found : Answer O
 
 -- ---- What was planned
 
+-- The T numbers spread stand at the front of 512.
+module _ {space room : ℕ} {bs : List ℕ} {x : Planned} (is : IsPlanned space room bs x) (ds : List ℕ) (e : ds ≡ filled (spreadFrom traceLimit bs) zeros) where
+  count : length (x .demands) ≡ x .order .periods
+  count = ordered-count (is .as-ordered)
+
+  pub spread-front : take (x .order .periods) ds ≡ x .demands
+  spread-front =
+      ap (λ (n : ℕ). take n ds) (sym count)
+      ∙ ap (take (length (x .demands))) (e ∙ ap (λ (a : Answer Ordered). filled (onFigures (λ y. y .demands) a) zeros) (ordered-any (is .as-ordered)))
+      ∙ filled-front (x .demands) zeros
+
+  pub spread-count : length (take (x .order .periods) ds) ≡ x .order .periods
+  spread-count = ap length spread-front ∙ count
+
+  pub spread-inside : x .order .periods ≤ length ds
+  spread-inside = omega (arith, spread-count, length-take (x .order .periods) ds)
+
 module _ (bs : List ℕ) (space room : ℕ) (r : PlannedRecords) (p : PlansOrder bs space room r) where
   pub plan-refused : (n : ℕ) → plannedSays (r .answer) ≡ refused n → planned space room bs ≡ refused n
   plan-refused n f = on-refused plannedFigures (planned space room bs) (sym (p .answers) ∙ f)
@@ -134,21 +151,18 @@ module _ (bs : List ℕ) (space room : ℕ) (r : PlannedRecords) (p : PlansOrder
     pub plan-is : IsPlanned space room bs the-plan
     plan-is = is-planned space room bs the-plan plan-found
 
-    periods-is : y .order .periods ≡ length (the-plan .demands)
-    periods-is = ap (λ (z : PlannedOrder). z .order .periods) (sym plan-figures) ∙ sym (ordered-count (plan-is .as-ordered))
-
     -- the T numbers spread
+    periods-are : the-plan .order .periods ≡ y .order .periods
+    periods-are = ap (λ (z : PlannedOrder). z .order .periods) plan-figures
+
     pub trace-is : take (y .order .periods) (r .demands) ≡ the-plan .demands
-    trace-is =
-        ap (λ (n : ℕ). take n (r .demands)) periods-is
-        ∙ ap (take (length (the-plan .demands))) (p .spreads ∙ ap (λ (a : Answer Ordered). filled (onFigures (λ x. x .demands) a) zeros) (ordered-any (plan-is .as-ordered)))
-        ∙ filled-front (the-plan .demands) zeros
+    trace-is = ap (λ (n : ℕ). take n (r .demands)) (sym periods-are) ∙ spread-front plan-is (r .demands) (p .spreads)
 
     pub trace-count : length (take (y .order .periods) (r .demands)) ≡ y .order .periods
-    trace-count = ap length trace-is ∙ sym periods-is
+    trace-count = ap (λ (n : ℕ). length (take n (r .demands))) (sym periods-are) ∙ spread-count plan-is (r .demands) (p .spreads) ∙ periods-are
 
     pub trace-inside : y .order .periods ≤ length (r .demands)
-    trace-inside = omega (arith, trace-count, length-take (y .order .periods) (r .demands))
+    trace-inside = omega (arith, periods-are, spread-inside plan-is (r .demands) (p .spreads))
 
     -- the records found
     pub records-are : take (y .plan .buckets) (r .records) ≡ the-plan .cutting

@@ -56,7 +56,7 @@ use Rattle.booking.specs.BookedLists.{BooksLists, count-fits, lists-clai
 use Rattle.booking.specs.CallLaws.{ListsLent, lentLists, sizes}
 use Rattle.terms.specs.declared.BucketRecord.{BucketRecord}
 use Rattle.terms.proofs.BucketRecord as T
-use Rattle.recording.specs.declared.plans.BookingAnswer.{BookingAnswer}
+use Rattle.recording.specs.declared.recorded.BookingAnswer.{BookingAnswer}
 use Rattle.recording.proofs.plans.BookingAnswer as An
 use Rattle.recording.proofs.plans.BookingAnswer.Laws as An′
 use Rattle.booking.proofs.lists.book_lists as book-lists
