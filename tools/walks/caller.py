@@ -29,7 +29,7 @@ class Lemma:
 
 
 class Caller:
-    LENDS, statements_of = True, staticmethod(mir.statements)
+    LENDS = True                            # whether it lends its `&mut` slices to calls
 
     def __init__(self, crate, name, comment, params, types, calls, ensures=None, requires=None, uses=(),
                  inner='', inits='zeros', start=(), fronts=None):
@@ -58,6 +58,9 @@ class Caller:
         self.val = {p.local: p.value for p in self.params}
         self.mean = {p.local: Slice(p) if p.is_ref else p.meaning() for p in self.params}
         self.entries, self.lemmas = self.frame.entries(), []
+
+    def statements_of(self, f):
+        return mir.statements(f)
 
     # ---- the context
     def at(self, k):

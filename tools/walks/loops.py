@@ -85,18 +85,23 @@ def stripped(text):
 
 
 class Loop(Caller):
-    """A description gives COPY: the `source`, the `old` list that is copied over, that each has `count` records, what
-    changes from turn to turn (`upto`), and `own` lemmas about it; the locals COUNT, INDEX, TEST, OFFSET and PLACE; THEN,
-    the statement after the loop; HELD, what the context holds of the lent list in the loop, and LEFT, at the end, in
-    `held` and `left` with what it says; SHARED, variables over all turns; `looping`, what the locals hold in a turn;
-    and the walks `starts`, `turn`, `leaves` and `exits`."""
+    """A description gives: COPY, the `source` and the `old` list that is copied over, that each has `count` records, what
+    changes from turn to turn (`upto`), and `own` lemmas about it; the locals COUNT, INDEX, TEST, OFFSET and PLACE; FIRST,
+    the number of calls before the loop; what the context holds of the lent list: PARTS outside the loop and HELD in it,
+    and what these say there and at the end (`held`, `left`); SHARED, variables over all turns, and OVER, over the end;
+    `looping`, what the locals hold in a turn; and the walks `opens`, `turn`, `leaves` and `exits`."""
 
-    LENDS, SHARED, statements_of = False, [], staticmethod(lambda f: mir.calls(f.body))
+    LENDS, FIRST, SHARED, OVER = False, 0, [], []
 
     def __init__(self, name, comment, params, calls, ensures, uses):
         super().__init__('record_list', 'copies.' + name, comment, params, [RECORD], calls, ensures,
                          ('le', '(count ≤ length list) × (count ≤ traceLimit)'), uses,
                          COPIES.format(bytes=RECORD_BYTES, **self.COPY))
+
+    def statements_of(self, f):
+        loop = [s[0] for s in mir.flat(f.body)].index('block')
+        self.then = 'mir.t-%d' % (loop + 2)
+        return mir.calls(f.body)
 
     # ---- the parts of a walk
     def begun(self, ctx, live):
@@ -106,14 +111,30 @@ class Loop(Caller):
         return self.w
 
     def call(self, number, over=()):
-        """The call of this number."""
+        """The call of this number; it gives what the result is."""
         self.lemma = Lemma(None, None, None)
         Lending(self, self.calls[number], self.body[number], over).walk()
         self.before += self.lemma.before
         return self.mean[self.body[number].to]
 
-    def first_index(self):
-        self.w.copy(self.INDEX, '(lit ! tt)', '(tt, record { fits = lit< tt })')
+    def starts(self):
+        """From the body's beginning to the loop: i is 0, and the slice is opened."""
+        for number in range(self.FIRST):
+            self.call(number)
+        w = self.w
+        w.copy(self.INDEX, '(lit ! tt)', '(tt, record { fits = lit< tt })')
+        w.move('P1')
+        w.emit('fsplit3 ! $ drop ! $')
+        w.head(1, *self.PARTS)
+        start = self.opens()
+        w.keep(*self.invariant)
+        at, turns = (par(' '.join([x] + [n for n, _ in self.SHARED])) for x in ('At', 'turns'))
+        return w.text('first ! $ blocks ! $ loops ! 𝓣 Nearer Nearer-wf %s %s (%s)' % (at, turns, start))
+
+    def tests(self):
+        w = self.begun(self.invariant, self.val)
+        w.bin(self.TEST, w.loc(self.INDEX), w.loc(self.COUNT), 'tt', TRIVIAL)
+        return w
 
     def pointer(self):
         """The place of element i of the list."""
@@ -123,35 +144,35 @@ class Loop(Caller):
         w.emit('rewrite ! %d (λ (p : ℕ). ‵ (fat fullShare tyPtr %s 0 (vptr b₀ p))) (sym (place-is %d o₀ (i .0))) refl $'
                % (w.i('r%d' % self.PLACE), self.at(self.PLACE), RECORD_BYTES))
 
-    def looped(self, of, start):
-        self.w.keep(*self.invariant)
-        last = 'first ! $ blocks ! $ loops ! 𝓣 Nearer Nearer-wf {0} {1} {2}'
-        return self.w.text(last.format(par('At' + of), par('turns' + of), par(start)))
-
     def again(self, following):
         """i is one more, and what the turn used is forgotten."""
         w, more = self.w, 'record { fits = more-fits (i .0) %s }' % LESS
         w.bin(self.INDEX, w.loc(self.INDEX), '(lit ! tt)', '(%s)' % more, '(tt, %s)' % more, last=True)
-        for k in sorted(w.live - self.kept):
+        for k in sorted(w.live - set(self.val)):
             w.forget(k)
         w.move(*self.invariant)
         return w.text('again ! Nearer At i (%s) (add-one-dec count (i .0) %s)' % (following, LESS))
 
-    def left_at(self, last):
-        """The locals are freed; the rest is the lemma of the end."""
+    def ends(self):
+        """From the test that fails to the lemma of the end."""
+        self.w.emit('exec ! C Λ E %s (atRet E Post) $' % self.then)
+        last = self.leaves()
         self.w.ret()
-        self.w.keep(*self.LEFT)
+        self.w.keep('t1', *self.PARTS)
         return self.w.text('by ! ' + par(last))
 
-    def slice_back(self, value, parts, known):
-        """The parts of the list are its slice again."""
-        self.w.move(*parts)
-        self.w.emit('fjoin ! $ pureI ! (at-slice T.the-row %s (s₀ ∷ [])) (tt, (tt, tt)) %s $ fjoin ! $' % (value, known))
-        self.w.head(2, 'P1')
-
-    def ended(self, result, last):
-        self.frame.exits(self.w, {self.params[0]: 'P1'}, result, last, self.ensures)
-        return self.w.text('done !')
+    def exits_text(self):
+        left, (value, known, result, last) = ['t1'] + list(self.PARTS), self.exits()
+        self.entries.update(self.left())
+        context, w = self.items(left), self.begun(left, [])
+        w.move(*self.PARTS)
+        w.emit('fjoin ! $ pureI ! (at-slice T.the-row %s (s₀ ∷ [])) (tt, (tt, tt)) %s $ fjoin ! $' % (value, known))
+        w.head(2, 'P1')
+        self.frame.exits(w, {self.params[0]: 'P1'}, result, last, self.ensures)
+        over = binders(self.OVER) + ' → ' if self.OVER else ''
+        return ['exits : %sent 𝓤 (⋆ 𝓤 H A (%s)) (Post %s)' % (over, context, result.v),
+                ' '.join(['exits'] + [n for n, _ in self.OVER]) + ' =', '    qed W (%s) ∵' % context,
+                stripped(w.text('done !')), '']
 
     # ---- the file
     def walk_text(self):
@@ -160,30 +181,20 @@ class Loop(Caller):
         self.invariant = self.HELD + [a + str(k) for a in 'rd' for k in range(self.n)]
         entry = self.items(begin)
         self.begun(begin, self.val)
-        start = self.starts()
-        index = '(i .0)'
-        self.val[self.INDEX] = WORD.val(index)
-        self.mean[self.INDEX] = Val(WORD, index, self.val[self.INDEX], '(refl, index-fits (i .0) (i .1))')
-        self.looping()
+        start = stripped(self.starts())
+        for k, m in {self.INDEX: Val(WORD, '(i .0)', WORD.val('(i .0)'), '(refl, index-fits (i .0) (i .1))'),
+                     **self.looping()}.items():
+            self.val[k], self.mean[k] = m.v, m
         self.entries.update(self.held())
-        self.kept, parts = set(self.val), {'at': self.items(self.invariant)}
-        w = self.begun(self.invariant, self.val)
-        w.bin(self.TEST, w.loc(self.INDEX), w.loc(self.COUNT), 'tt', TRIVIAL)
-        parts['test'], parts['tested'] = w.i('r%d' % self.TEST), stripped(w.text('').rstrip())
+        at, w = self.items(self.invariant), self.tests()
+        tested, test = stripped(w.text('').rstrip()), w.i('r%d' % self.TEST)
         self.begun(w.ctx, w.live)
-        parts['over'] = stripped(self.leaves())
+        over = stripped(self.ends())
         self.begun(w.ctx, w.live)
-        parts['more'] = stripped(self.turn())
-        turns = TURNS.format(then=self.THEN, **parts).strip('\n').split('\n')
+        more = stripped(self.turn())
+        turns = TURNS.format(at=at, then=self.then, tested=tested, test=test, more=more, over=over).strip('\n').split('\n')
         if self.SHARED:
             turns = ['module _ %s where' % binders(self.SHARED)] + ['  ' + line if line else '' for line in turns]
-        out = self.before + self.end_text() + turns + [
-            '', 'starting : Sq W (%s) (runs C Λ E mir.t-1 (atRet E Post))' % entry, 'starting =', stripped(start), '']
+        out = self.before + self.exits_text() + turns + [
+            '', 'starting : Sq W (%s) (runs C Λ E mir.t-1 (atRet E Post))' % entry, 'starting =', start, '']
         return ['      ' + line if line else '' for line in '\n'.join(out).split('\n')], 'starting'
-
-    def end_text(self):
-        self.entries.update(self.left())
-        self.begun(self.LEFT, [])
-        context, over, value = self.items(self.LEFT), self.OVER, self.RESULT
-        lines = ['exits : %sent 𝓤 (⋆ 𝓤 H A (%s)) (Post %s)' % (over, context, value)]
-        return lines + ['exits%s =' % self.BOUND, '    qed W (%s) ∵' % context, stripped(self.exits()), '']

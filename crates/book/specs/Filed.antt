@@ -8,7 +8,7 @@ use Rattle.terms.specs.Answer.{Answer, figures}
 use Rattle.terms.specs.Limits.{traceLimit}
 use Rattle.order_file.specs.declared.orders.Order.{Order}
 use Rattle.order_file.specs.Order.{readOrder}
-use Rattle.recording.specs.declared.plans.Booking.{Booking}
+use Rattle.recording.specs.declared.recorded.Booking.{Booking}
 use Rattle.booking.specs.Booking.{Lent}
 use Rattle.booking.specs.Claim.{Demand3, Claim}
 

@@ -12,7 +12,7 @@ use Rattle.terms.specs.Answer.{Answer, figures, refused}
 use Rattle.terms.specs.Records.{Cutting, runLength, runRate, runDepth}
 use Rattle.encoding.specs.StoreLaws.{Storing, one-stored, all-stored, sets-front}
 use Rattle.record_list.specs.Held.{noRecord}
-use Rattle.plan_file.specs.RecordLaws.{first-next, first-none}
+use Rattle.record_list.specs.PartLaws.{rest-next, rest-none}
 use Rattle.exports.specs.Lists.{RecordLists, Filled, recorded, roomOf}
 
 pub record Rooms (n : ℕ) (xs ys zs : List ℕ) : Type 0 where
@@ -47,9 +47,9 @@ module _ (k : ℕ) (records : Cutting) (figure : BucketRecord → ℕ) where
 
   module _ {old new : List ℕ} {i : ℕ} (s : Storing old 0 (left 0) new i (left i)) (fits : k ≤ length records) where
     pub figure-stored : i < k → Stored old (set new i (figure (getD records i noRecord))) (i + 1)
-    figure-stored l = one-stored s (figure (getD records i noRecord)) (left (i + 1)) (ap (map figure) (first-next k records fits i l))
+    figure-stored l = one-stored s (figure (getD records i noRecord)) (left (i + 1)) (ap (map figure) (rest-next k records fits i l))
 
     pub figures-stored : k ≤ i → k ≤ length old → new ≡ recorded figure (figures (take k records)) old
     figures-stored l m =
-        all-stored s (ap (map figure) (first-none k records i l))
+        all-stored s (ap (map figure) (rest-none k records i l))
         ∙ sets-front (left 0) old (omega (arith, length-map (take k records) figure, length-take-le k records fits))

@@ -3,14 +3,12 @@
 use Prim.Native.Nat.{ℕ, zero, suc, _+_, _*_, _≤_, _<_}
 use native.Mathlib.Omega.{arith}
 use native.Mathlib.Nat.{add-zero, zero-add}
-use native.Mathlib.Numerals.{add-one}
 use mathlib.Core.Path.{_≡_, refl, sym, ap, ap₂, _∙_}
 use mathlib.Core.Bool.{Bool, true, _&&_, and-true, and-assoc}
 use mathlib.Core.List.{[], _∷_}
 use borrow.Author.Tests.{eqb-true, eq-eqb}
 use lib.Dec.{eqb}
-use lib.ListN.{length, take, drop, getD, length-take, drop-of-length-le}
-use lib.Seq.{slice-cons}
+use lib.ListN.{length, getD}
 use Rattle.terms.specs.declared.BucketRecord.{BucketRecord}
 use Rattle.terms.specs.Bools.{and-both, both-and}
 use Rattle.terms.specs.Ranges.{recordOk}
@@ -52,13 +50,6 @@ records-ok T xs r = both-and (all-ok xs (r .each)) (eq-eqb _ _ (r .sum))
 -- A tally with one record more.
 abbrev pub pushed : Tally → BucketRecord → Tally
 pushed t x = record { ok = t .ok && recordOk x; sum = t .sum + runLength x }
-
--- The first k records from the i-th on: that and those after it, or none.
-pub first-next : (k : ℕ) (xs : Cutting) → k ≤ length xs → (i : ℕ) → i < k → drop i (take k xs) ≡ getD xs i noRecord ∷ drop (i + 1) (take k xs)
-first-next k xs l i h = rw (add-one, slice-cons i k xs noRecord)
-
-pub first-none : (k : ℕ) (xs : Cutting) (i : ℕ) → k ≤ i → drop i (take k xs) ≡ []
-first-none k xs i h = let l : length (take k xs) ≤ i = omega (arith, length-take k xs) in drop-of-length-le (take k xs) l
 
 module _ (all : Cutting) where
   -- i of the records are weighed in the tally; `rest` is left.

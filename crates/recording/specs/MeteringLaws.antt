@@ -17,8 +17,7 @@ use Rattle.meter.specs.declared.meters.Meter.{Meter}
 use Rattle.meter.specs.Meter.{meterRun}
 use Rattle.meter.specs.MeterLaws.{Sound}
 use Rattle.record_list.specs.Held.{noRecord}
-use Rattle.record_list.specs.PartLaws.{Begins, first-begins}
-use Rattle.plan_file.specs.RecordLaws.{first-next, first-none}
+use Rattle.record_list.specs.PartLaws.{Begins, first-begins, next-begins, rest, rest-next, rest-none}
 use Rattle.recording.specs.declared.metering.MeterTotals.{MeterTotals}
 use Rattle.recording.specs.declared.metering.TotalsAnswer.{TotalsAnswer}
 use Rattle.recording.specs.declared.metering.TotalsAnswer.the-variants.{Metered, Refused}
@@ -81,14 +80,14 @@ module _ (f : Factor) (ds : List ℕ) (k : ℕ) (records : Cutting) where
   -- i of the first k runs are metered, and the next begins at `start`.
   pub record Metering (t : MeterTotals) (start i : ℕ) : Type 0 where
     pub few : Few i t
-    pub begins : Begins (take k records) ds start i
-    pub is : completed t (metersOf f (drop start ds) (drop i (take k records))) ≡ whole
+    pub begins : Begins k records ds start i
+    pub is : completed t (metersOf f (drop start ds) (rest k records i)) ≡ whole
 
   pub none-metered : total runLength (take k records) ≡ length ds → Metering none 0 0
   none-metered e =
       record {
         few = record { sents = omega arith; overs = omega arith; losts = omega arith; helds = omega arith };
-        begins = first-begins (take k records) ds e;
+        begins = first-begins k records ds e;
         is = completed-none (metersOf f ds (take k records));
       }
 
@@ -97,15 +96,11 @@ module _ (f : Factor) (ds : List ℕ) (k : ℕ) (records : Cutting) where
       abbrev this : BucketRecord
       this = getD records i noRecord
 
-      left : drop i (take k records) ≡ this ∷ drop (i + 1) (take k records)
-      left = first-next k records fits i l
-
-      pub run-inside : start + runLength this ≤ length ds
-      unfolding total
-      run-inside = omega (arith, s .begins, ap (total runLength) left)
+      left : rest k records i ≡ this ∷ rest k records (i + 1)
+      left = rest-next k records fits i l
 
       abbrev onward : Answer Meter → Answer MeterTotals
-      onward a = completed t (andThen a (λ m. onFigures (m ∷_) (metersOf f (drop (runLength this) (drop start ds)) (drop (i + 1) (take k records)))))
+      onward a = completed t (andThen a (λ m. onFigures (m ∷_) (metersOf f (drop (runLength this) (drop start ds)) (rest k records (i + 1)))))
 
       next : whole ≡ onward (meterRun (this .bucket) f (take (runLength this) (drop start ds)))
       unfolding metersOf
@@ -125,10 +120,10 @@ module _ (f : Factor) (ds : List ℕ) (k : ℕ) (records : Cutting) where
                 losts = omega (arith, s .few .losts, o .totals .losts);
                 helds = omega (arith, s .few .helds, o .totals .holds, o .fresh .bucket .depths);
               };
-              begins = omega (arith, s .begins, ap (total runLength) left);
+              begins = next-begins k records ds start i (s .begins) fits l;
               is =
-                  ap (λ (ys : List ℕ). completed (added t m) (metersOf f ys (drop (i + 1) (take k records)))) (sym (drop-drop (runLength this) start ds))
-                  ∙ sym (completed-more t m (metersOf f (drop (runLength this) (drop start ds)) (drop (i + 1) (take k records))))
+                  ap (λ (ys : List ℕ). completed (added t m) (metersOf f ys (rest k records (i + 1)))) (sym (drop-drop (runLength this) start ds))
+                  ∙ sym (completed-more t m (metersOf f (drop (runLength this) (drop start ds)) (rest k records (i + 1))))
                   ∙ sym (next ∙ ap onward (sym e ∙ g));
             }
 
@@ -139,5 +134,5 @@ module _ (f : Factor) (ds : List ℕ) (k : ℕ) (records : Cutting) where
     unfolding metersOf
     all-metered l =
         ap figures (sym (plus-none t))
-        ∙ ap (λ (xs : Cutting). completed t (metersOf f (drop start ds) xs)) (sym (first-none k records i l))
+        ∙ ap (λ (xs : Cutting). completed t (metersOf f (drop start ds) xs)) (sym (rest-none k records i l))
         ∙ s .is

@@ -4,7 +4,7 @@ use Prim.Native.Nat.{ℕ, _+_, _-_, _≤_, _<_}
 use native.Mathlib.Omega.{arith}
 use mathlib.Core.Path.{_≡_, refl, sym, ap, subst, _∙_}
 use mathlib.Core.List.{List, [], _∷_, _++_, append-nil, append-assoc}
-use lib.ListN.{length, take, drop, length-take, length-drop}
+use lib.ListN.{length, take, drop, getD, length-take, length-drop}
 use lib.Seq.{drop-drop}
 use Rattle.terms.specs.declared.Bucket.{Bucket}
 use Rattle.terms.specs.declared.BucketRecord.{BucketRecord}
@@ -15,8 +15,8 @@ use Rattle.terms.specs.RangeRules.{FactorRange, FreshRange, RecordRange, Period
 use Rattle.terms.specs.RangeLaws.{fresh-ok, periods-ok}
 use Rattle.terms.specs.Records.{Cutting, Each, runLength, total}
 use Rattle.bucket.specs.Trial.{trialFigures, trialOf}
-use Rattle.record_list.specs.Lists.{listed, recordsOf}
-use Rattle.record_list.specs.PartLaws.{Begins, first-begins, next-begins, rest, rest-all, rest-next, rest-none, run-inside}
+use Rattle.record_list.specs.Held.{noRecord}
+use Rattle.record_list.specs.PartLaws.{Begins, first-begins, next-begins, rest, rest-next, rest-none, run-inside}
 use Rattle.text.specs.PutLaws.{Puts, Room, room-front, room-next, puts-both}
 use Rattle.sheets.specs.Sheet.{runLine, runLines}
 
@@ -33,46 +33,42 @@ tried b f ds h k = rw (periods-ok (length ds) k, fresh-ok b f h)
 
 -- ---- The lines stored run by run
 
-module _ (f : Factor) (ds runs rates depths : List ℕ) (k : ℕ) (old : List ℕ) (at : ℕ) where
-  abbrev left : ℕ → Cutting
-  left = rest runs rates depths k
-
+module _ (f : Factor) (ds : List ℕ) (k : ℕ) (records : Cutting) (old : List ℕ) (at : ℕ) where
   abbrev whole : List ℕ
-  whole = runLines f 1 ds (recordsOf k runs rates depths)
+  whole = runLines f 1 ds (take k records)
 
   -- The lines of i runs are stored, and the next run begins at `start`.
   pub record Printing (new : List ℕ) (next start i : ℕ) : Type 0 where
     pub done : List ℕ
     pub put : Puts old at done new next
-    pub is : done ++ runLines f (start + 1) (drop start ds) (left i) ≡ whole
-    pub begins : Begins runs rates depths k ds start i
-    pub each : Each RecordRange (left i)
+    pub is : done ++ runLines f (start + 1) (drop start ds) (rest k records i) ≡ whole
+    pub begins : Begins k records ds start i
+    pub each : Each RecordRange (rest k records i)
 
-  pub none-printed : Printable f ds (recordsOf k runs rates depths) → Printing old at 0 0
+  pub none-printed : Printable f ds (take k records) → Printing old at 0 0
   none-printed p =
-      let e = rest-all runs rates depths k in
       record {
         done = [];
         put = record { place = omega arith; stored = refl };
-        is = ap (runLines f 1 ds) e;
-        begins = first-begins runs rates depths k ds (p .sum);
-        each = subst (Each RecordRange) (sym e) (p .each);
+        is = refl;
+        begins = first-begins k records ds (p .sum);
+        each = p .each;
       }
 
   module _ {new : List ℕ} {next start i : ℕ} (s : Printing new next start i) where
-    module _ (l : i < k) where
+    module _ (fits : k ≤ length records) (l : i < k) where
       abbrev this : BucketRecord
-      this = listed runs rates depths i
+      this = getD records i noRecord
 
       abbrev part : List ℕ
       part = take (runLength this) (drop start ds)
 
-      left-is : left i ≡ this ∷ left (i + 1)
-      left-is = rest-next runs rates depths k i l
+      left-is : rest k records i ≡ this ∷ rest k records (i + 1)
+      left-is = rest-next k records fits i l
 
       -- the next run is inside the trace
       inside : start + runLength this ≤ length ds
-      inside = run-inside runs rates depths k ds start i (s .begins) l
+      inside = run-inside k records ds start i (s .begins) fits l
 
       -- … and in its ranges
       run-range : RecordRange this
@@ -85,13 +81,13 @@ module _ (f : Factor) (ds runs rates depths : List ℕ) (k : ℕ) (old : List �
       line = runLine f (start + 1) (this .bucket) part
 
       abbrev after : List ℕ
-      after = runLines f (start + 1 + runLength this) (drop (runLength this) (drop start ds)) (left (i + 1))
+      after = runLines f (start + 1 + runLength this) (drop (runLength this) (drop start ds)) (rest k records (i + 1))
 
       next-is : s .done ++ line ++ after ≡ whole
       unfolding runLines
       next-is =
           append-assoc (s .done) line after
-          ∙ ap (λ (xs : Cutting). s .done ++ runLines f (start + 1) (drop start ds) xs) (sym left-is)
+          ∙ ap (λ (ys : Cutting). s .done ++ runLines f (start + 1) (drop start ds) ys) (sym left-is)
           ∙ s .is
 
       line-room : Room old at whole → Room new next line
@@ -104,16 +100,16 @@ module _ (f : Factor) (ds runs rates depths : List ℕ) (k : ℕ) (old : List �
             done = s .done ++ line;
             put = puts-both (s .put) line new′ next′ q;
             is =
-                ap (λ (n : ℕ). s .done ++ line ++ runLines f n (drop (start + runLength this) ds) (left (i + 1))) e
-                ∙ ap (λ (ys : List ℕ). s .done ++ line ++ runLines f (start + 1 + runLength this) ys (left (i + 1))) (sym (drop-drop (runLength this) start ds))
+                ap (λ (n : ℕ). s .done ++ line ++ runLines f n (drop (start + runLength this) ds) (rest k records (i + 1))) e
+                ∙ ap (λ (ys : List ℕ). s .done ++ line ++ runLines f (start + 1 + runLength this) ys (rest k records (i + 1))) (sym (drop-drop (runLength this) start ds))
                 ∙ next-is;
-            begins = next-begins runs rates depths k ds start i (s .begins) l;
+            begins = next-begins k records ds start i (s .begins) fits l;
             each = subst (Each RecordRange) left-is (s .each) .1;
           }
 
       -- the run's own part of the trace
       module _ (ys : List ℕ) (e : ys ≡ part) where
-        pub run-ready : Printable f ds (recordsOf k runs rates depths) → Room old at whole
+        pub run-ready : Printable f ds (take k records) → Room old at whole
             → FreshRange (this .bucket) f × (PeriodsRange (length ys) × ((start + 1 ≤ traceLimit) × Room new next (runLine f (start + 1) (this .bucket) ys)))
         run-ready p r =
             let n : length ys ≡ runLength this = ap length e ∙ run-count in (
@@ -130,6 +126,5 @@ module _ (f : Factor) (ds runs rates depths : List ℕ) (k : ℕ) (old : List �
     pub all-printed : k ≤ i → Puts old at whole new next
     unfolding runLines
     all-printed l =
-        let e = rest-none runs rates depths k i l in
-        subst (λ (xs : List ℕ). Puts old at xs new next)
-        (sym (append-nil (s .done)) ∙ ap (λ (xs : Cutting). s .done ++ runLines f (start + 1) (drop start ds) xs) (sym e) ∙ s .is) (s .put)
+        subst (λ (zs : List ℕ). Puts old at zs new next)
+        (sym (append-nil (s .done)) ∙ ap (λ (ys : Cutting). s .done ++ runLines f (start + 1) (drop start ds) ys) (sym (rest-none k records i l)) ∙ s .is) (s .put)

@@ -1,9 +1,9 @@
 // The printed sheet of the series, from an order file.
-mod plans;
+mod plan_sheets;
 mod printed;
 mod runs;
 
-pub use plans::LONGEST_BUCKET_LINE;
-pub use plans::LONGEST_FIRST_LINE;
-pub use plans::LONGEST_SHEET;
+pub use plan_sheets::LONGEST_BUCKET_LINE;
+pub use plan_sheets::LONGEST_FIRST_LINE;
+pub use plan_sheets::LONGEST_SHEET;
 pub use printed::sheet;

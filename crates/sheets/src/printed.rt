@@ -1,9 +1,10 @@
 // The printed sheet, from an order file.
-use crate::plans::LONGEST_SHEET;
-use crate::plans::put_sheet;
+use crate::plan_sheets::LONGEST_SHEET;
+use crate::plan_sheets::put_sheet;
 use encoding::FillAnswer;
-use planning::orders::PlannedAnswer;
-use planning::orders::plan_any;
+use planning::planned_orders::PlannedAnswer;
+use planning::planned_orders::plan_order;
+use terms::limits::TRACE_LIMIT;
 use text::fills::fill;
 ghost use mathlib.Core.Path.{_≡_};
 ghost use lib.ListN.{length};
@@ -19,17 +20,15 @@ pub fn sheet(order: &[u8], text: &mut [u8]) -> FillAnswer
     ensures { λ r. ⌜ fillSays r ≡ onFigures length (sheetIn (length (now (text .entry))) (now (order .entry))) ⌝ }
     ensures { λ _. ⌜ now (text .exit) ≡ filled (sheetIn (length (now (text .entry))) (now (order .entry))) (now (text .entry)) ⌝ }
 {
-    let planned = plan_any(order);
+    let planned = plan_order(order, TRACE_LIMIT, TRACE_LIMIT);
     let answer = planned.answer;
     let found = match answer {
         PlannedAnswer::Found(x) => x,
         PlannedAnswer::Refused(why) => return FillAnswer::Refused(why),
     };
     let demands = planned.demands;
-    let runs = planned.runs;
-    let rates = planned.rates;
-    let depths = planned.depths;
+    let records = planned.records;
     let mut ready = [0u8; LONGEST_SHEET];
-    let length = put_sheet(&mut ready, found, &demands, &runs, &rates, &depths);
+    let length = put_sheet(&mut ready, found, &demands, records);
     fill(&ready[..length], text)
 }

@@ -3,16 +3,16 @@
 use bucket::TrialAnswer;
 use bucket::trial;
 use terms::Bucket;
-use terms::Depth;
+use terms::BucketRecord;
 use terms::Factor;
-use terms::Rate;
+use terms::limits::TRACE_LIMIT;
 use text::lines::put_bucket_line;
 ghost use Prim.Native.Nat.{_+_, _≤_};
 ghost use mathlib.Core.Path.{_≡_};
-ghost use lib.ListN.{length};
+ghost use lib.ListN.{length, take};
+ghost use Rattle.terms.specs.Limits.{traceLimit};
 ghost use Rattle.terms.specs.RangeRules.{FreshRange, PeriodsRange};
 ghost use Rattle.bucket.specs.Trial.{trialFigures};
-ghost use Rattle.record_list.specs.Lists.{recordsOf, roomOf};
 ghost use Rattle.text.specs.PutLaws.{Puts};
 ghost use Rattle.sheets.specs.Sheet.{runLine, runLines};
 ghost use Rattle.sheets.specs.RunLaws.{Printable};
@@ -49,35 +49,28 @@ fn put_run(
     put_bucket_line(text, at, first, last, bucket, spare)
 }
 
-// Stores the lines of the runs whose records stand at the front of the lists.
+// Stores the lines of the runs of the first records.
 pub fn put_runs(
     text: &mut [u8],
     at: usize,
     factor: Factor,
     trace: &[u16],
     buckets: usize,
-    runs: &[u32],
-    rates: &[u32],
-    depths: &[u32],
+    records: [BucketRecord; TRACE_LIMIT],
 ) -> usize
-    requires { ⌜ buckets ≤ roomOf (now runs) (now rates) (now depths) ⌝ }
-    requires { ⌜ Printable factor (now trace) (recordsOf buckets (now runs) (now rates) (now depths)) ⌝ }
-    requires { ⌜ at + length (runLines factor 1 (now trace) (recordsOf buckets (now runs) (now rates) (now depths))) ≤ length (now text) ⌝ }
-    ensures { λ r. ⌜ Puts (now (text .entry)) at
-        (runLines factor 1 (now (trace .entry)) (recordsOf buckets (now (runs .entry)) (now (rates .entry)) (now (depths .entry))))
-        (now (text .exit)) r ⌝ }
+    requires { ⌜ buckets ≤ traceLimit ⌝ }
+    requires { ⌜ Printable factor (now trace) (take buckets records) ⌝ }
+    requires { ⌜ at + length (runLines factor 1 (now trace) (take buckets records)) ≤ length (now text) ⌝ }
+    ensures { λ r. ⌜ Puts (now (text .entry)) at (runLines factor 1 (now (trace .entry)) (take buckets records)) (now (text .exit)) r ⌝ }
 {
     let mut next = at;
     let mut start = 0;
     let mut i = 0;
     while i < buckets {
-        let end = start + runs[i] as usize;
-        let bucket = Bucket {
-            rate: Rate(rates[i]),
-            depth: Depth(depths[i]),
-        };
+        let record = records[i];
+        let end = start + record.periods as usize;
         let first = start as u32 + 1;
-        next = put_run(text, next, factor, first, bucket, &trace[start..end]);
+        next = put_run(text, next, factor, first, record.bucket, &trace[start..end]);
         start = end;
         i += 1;
     }

@@ -14,7 +14,7 @@ PROOFS = [Caller(
     types=[declared('struct', 'Ra', 'terms::Rate', ['0']), declared('struct', 'De', 'terms::Depth', ['0']),
            declared('struct', 'Bu', 'terms::Bucket', ['rate', 'depth']),
            declared('struct', 'T', 'terms::BucketRecord', ['periods', 'bucket']),
-           declared('enum', 'An', 'recording::plans::BookingAnswer')],
+           declared('enum', 'An', 'recording::recorded::BookingAnswer')],
     inits='blank',
     calls=[
         Call('booking', 'booking::bookings::book', exported='booking::book', out='answer',

@@ -22,15 +22,15 @@ def walk(name, comment, params, types, call, fits, fronts):
 PROOFS = [
     walk('series_in', FILLED.format('series_in', 'series'),
          params=['trace', 'tariff', 'list', 'entries'],
-         types=[declared('struct', 'P', 'terms::Tariff'), declared('enum', 'F', 'series::plans::SeriesAnswer'),
+         types=[declared('struct', 'P', 'terms::Tariff'), declared('enum', 'F', 'series::answers::SeriesAnswer'),
                 declared('struct', 'S', 'list_calls::arrays::SeriesLent', ['answer', 'list'])],
-         call=Call('planning', 'plans::cuttings::series', out='answer', new=['after'], exported='plans::series'),
+         call=Call('planning', 'lent_plans::cuttings::series', out='answer', new=['after'], exported='lent_plans::series'),
          fits='entries ≤ 516', fronts={'list': 'fits'}),
     walk('read_in', FILLED.format('read_in', 'read_plan'),
          params=['bytes', 'list', 'entries'],
-         types=[declared('enum', 'F', 'plan_file::plans::PlanAnswer'),
+         types=[declared('enum', 'F', 'plan_file::answers::PlanAnswer'),
                 declared('struct', 'S', 'list_calls::arrays::ReadLent', ['answer', 'list'])],
-         call=Call('reading', 'plans::files::read_plan', out='answer', new=['after'], exported='plans::read_plan'),
+         call=Call('reading', 'lent_plans::files::read_plan', out='answer', new=['after'], exported='lent_plans::read_plan'),
          fits='entries ≤ 516', fronts={'list': 'fits'}),
     walk('write_in', '''
 -- `list_calls::arrays::write_in` meets its contract: a walk of its MIR. The array is copied into a local, and its
@@ -40,9 +40,9 @@ PROOFS = [
 -- Assumes nothing.
 ''',
          params=['figs', 'list', 'entries', 'bytes'],
-         types=[declared('struct', 'P', 'plan_file::plans::PlanFigures'),
+         types=[declared('struct', 'P', 'plan_file::answers::PlanFigures'),
                 declared('enum', 'F', 'encoding::fills::FillAnswer')],
-         call=Call('writing', 'plans::files::write_plan', out='answer', new=['file'], exported='plans::write_plan'),
+         call=Call('writing', 'lent_plans::files::write_plan', out='answer', new=['file'], exported='lent_plans::write_plan'),
          fits='entries ≤ 516', fronts={'list': 'fits'}),
     walk('book_in', '''
 -- `list_calls::arrays::book_in` meets its contract: a walk of its MIR. Each array is copied into a local, and its
@@ -52,7 +52,7 @@ PROOFS = [
 -- Assumes nothing.
 ''',
          params=['order', 'demands', 'plan', 'planned', 'bytes', 'back', 'read'],
-         types=[declared('enum', 'F', 'recording::plans::BookingAnswer'),
+         types=[declared('enum', 'F', 'recording::recorded::BookingAnswer'),
                 declared('struct', 'S', 'list_calls::arrays::BookLent', ['answer', 'plan', 'back'])],
          call=Call('booking', 'booking::bookings::book', out='answer', exported='booking::book',
                    new=['spread', 'plan-after', 'file', 'back-after']),

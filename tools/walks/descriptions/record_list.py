@@ -14,9 +14,8 @@ NOW = '(after (i .0))'
 class StoreRecords(Loop):
     """The list is borrowed by `&mut`; in each turn `record_at` gives a record, which is stored."""
 
-    COUNT, INDEX, TEST, OFFSET, PLACE = 3, 4, 5, 7, 8
-    THEN, HELD, LEFT = 'mir.t-3', ['row', 'obor', 'obs', 'auth'], ['t1', 'obs', 'bor']
-    OVER, BOUND, RESULT = '', '', 'vunit'
+    COUNT, INDEX, TEST, MADE, OFFSET, PLACE = 3, 4, 5, 6, 7, 8
+    PARTS, HELD = ['obs', 'bor'], ['row', 'obor', 'obs', 'auth']
     COPY = {'source': 'records', 'source_fits': 'omega (arith, le .1, records-is .1 .0 .1)', 'old': 'list',
             'old_fits': 'le .0', 'upto': '(i : ℕ) × (i ≤ count)', 'own': '''
 abbrev next : (i : Upto) → i .0 < count → Upto
@@ -33,7 +32,7 @@ inside i l = subst (λ (n : ℕ). i .0 < n) (sym (long-at (i .0) (i .1))) (lt-of
 '''.strip('\n')}
 
     def looping(self):
-        pass
+        return {}
 
     def said(self, xs):
         held = 'Held T.the-row (length %s) b₀ o₀ γ₀' % xs
@@ -47,15 +46,11 @@ inside i l = subst (λ (n : ℕ). i .0 < n) (sym (long-at (i .0) (i .1))) (lt-of
     def left(self):
         return self.said('(after count)')
 
-    def starts(self):
-        self.first_index()
-        self.w.move('P1')
-        self.w.emit('fsplit3 ! $ drop ! $')
-        self.w.head(1, 'obs', 'bor')
+    def opens(self):
         self.w.move('obs', 'bor', 't1')
         self.w.emit('opens-slice ! tt T.the-row list b₀ o₀ $')
-        self.w.head(3, 'row', 'obor', 'obs', 'auth')
-        return self.looped('', '0, zero-le')
+        self.w.head(3, *self.HELD)
+        return '0, zero-le'
 
     def turn(self):
         made, w = self.call(0, TURN), self.w
@@ -64,7 +59,7 @@ inside i l = subst (λ (n : ℕ). i .0 < n) (sym (long-at (i .0) (i .1))) (lt-of
         w.bind('elem-out ! %s fullShare %s (i .0) noRecord b₀ o₀ (inside i %s) (λ _.' % (SHOWS, NOW, LESS))
         w.head(1, 'cell', 'old', 'others')
         w.emit('assigns ! (of-opd ! %s) (from ! (hop ! (look ! %d refl) (stop !))) (store-raw ! 0 refl %s) $'
-               % (w.loc(self.body[0].to), w.i('r%d' % self.PLACE), made.typed()))
+               % (w.loc(self.MADE), w.i('r%d' % self.PLACE), made.typed()))
         w.drop('old')
         w.emit(made.owned())
         w.head(0, 'own')
@@ -73,33 +68,31 @@ inside i l = subst (λ (n : ℕ). i .0 < n) (sym (long-at (i .0) (i .1))) (lt-of
         w.head(3, 'row')
         w.emit('rewrite ! 0 (λ (l : List BucketRecord). ‵ (row T.the-row fullShare l b₀ o₀)) '
                '(ap (λ (x : BucketRecord). set %s (i .0) x) made-this ∙ after-next (i .0) %s) refl $' % (NOW, LESS))
+        self.val.pop(self.MADE)
         return self.again('next i ' + LESS)
 
     def leaves(self):
         w = self.w
-        w.emit('exec ! C Λ E %s (atRet E Post) $' % self.THEN)
-        w.move('row', 'obor', 'obs', 'auth')
+        w.move(*self.HELD)
         w.emit('rewrite ! 0 (λ (j : ℕ). ‵ (row T.the-row fullShare (after j) b₀ o₀)) '
                '(le-antisymm (i .1) (nltb→le (i .0) count over)) refl $')
         w.emit('closes-slice ! tt T.the-row list (after count) long b₀ o₀ $')
         w.head(4, 'obs', 'bor', 't1')
         w.copy(0, '(unit-lit !)', '(tt, tt)')
-        return self.left_at('exits')
+        return 'exits'
 
     def exits(self):
         now = '(record { ptr = (b₀, o₀); name = γ₀; now = after count })'
         known = '(ap (λ (m : ℕ). sliceVal (b₀, o₀) m ∷ []) (sym long), subst (Room T.the-row) (sym long) room₀)'
-        self.slice_back(now, ['obs', 'bor'], known)
-        return self.ended(Val(UNIT, 'tt', 'vunit', 'refl'), {self.params[0]: ('after count', 'long')})
+        return now, known, Val(UNIT, 'tt', 'vunit', 'refl'), {self.params[0]: ('after count', 'long')}
 
 
 class LoadRecords(Loop):
     """The list is borrowed by `&`; in each turn a record is read and `with_record` puts it into the array."""
 
     COUNT, LOADED, INDEX, TEST, OFFSET, PLACE, READ = 2, 3, 4, 5, 6, 7, 8
-    THEN, HELD, LEFT = 'mir.t-4', ['row', 'obor', 'shr', 'res'], ['t1', 'res', 'shr']
-    SHARED = [('p₀', 'Share')]
-    OVER, BOUND, RESULT = '(v : Val) → Is %s (after count) (v ∷ []) → ' % RECORDS.row, ' v is', 'v'
+    FIRST, PARTS, HELD = 1, ['res', 'shr'], ['row', 'obor', 'shr', 'res']
+    SHARED, OVER = [('p₀', 'Share')], [('v', 'Val'), ('is', 'Is %s (after count) (v ∷ [])' % RECORDS.row)]
     COPY = {'source': 'list', 'source_fits': 'le .0', 'old': 'blank', 'old_fits': 'omega (arith, le .1, length-blank)',
             'upto': '(i : ℕ) × (i ≤ count) × (v : Val) × Is %s (after i) (v ∷ [])' % RECORDS.row, 'own': '''
 abbrev start : (r : List BucketRecord) (v : Val) → Is {0} r (v ∷ []) → r ≡ blank → Upto
@@ -113,7 +106,7 @@ at-end i over = subst (λ (n : ℕ). Is {0} (after n) (i .2 ∷ [])) (le-antisym
 '''.strip('\n').format(RECORDS.row)}
 
     def looping(self):
-        self.val[self.LOADED], self.mean[self.LOADED] = 'i .2', Val(RECORDS, NOW, 'i .2', '(i .3)')
+        return {self.LOADED: Val(RECORDS, NOW, 'i .2', '(i .3)')}
 
     def held(self):
         share = 'arr-parts (shares T.the-row) (length list) .part %s list b₀ o₀'
@@ -124,16 +117,11 @@ at-end i over = subst (λ (n : ℕ). Is {0} (after n) (i .2 ∷ [])) (le-antisym
     def left(self):
         return {}
 
-    def starts(self):
-        self.call(0)
-        self.first_index()
-        self.w.move('P1')
-        self.w.emit('fsplit3 ! $ drop ! $')
-        self.w.head(1, 'res', 'shr')
+    def opens(self):
         self.w.move('shr', 't1')
         self.w.bind('looks-slice ! tt %s (LL.copy T.the-type T′.the-copy 𝓤 H A W) list b₀ o₀ (λ p₀.' % SHOWS)
         self.w.head(2, 'row', 'obor', 'shr')
-        return self.looped(' p₀', 'start begun begun-val begun-is begun-blank')
+        return 'start begun begun-val begun-is begun-blank'
 
     def turn(self):
         w, inside = self.w, '(lt-of-lt-of-le %s (le .0))' % LESS
@@ -149,17 +137,15 @@ at-end i over = subst (λ (n : ℕ). Is {0} (after n) (i .2 ∷ [])) (le-antisym
         return self.again('next i %s more more-val more-is more-set' % LESS)
 
     def leaves(self):
-        w, loaded = self.w, self.mean[self.LOADED]
-        w.emit('exec ! C Λ E %s (atRet E Post) $' % self.THEN)
+        w = self.w
         w.move('row', 'obor')
         w.emit('shuts-slice ! tt T.the-row p₀ list b₀ o₀ $')
         w.head(2, 't1')
-        w.copy(0, w.loc(self.LOADED), loaded.typed())
-        return self.left_at('exits (i .2) (at-end i (nltb→le (i .0) count over))')
+        w.copy(0, w.loc(self.LOADED), self.mean[self.LOADED].typed())
+        return 'exits (i .2) (at-end i (nltb→le (i .0) count over))'
 
     def exits(self):
-        self.slice_back('x₀', ['res', 'shr'], '(refl, room₀)')
-        return self.ended(Val(RECORDS, '(after count)', 'v', 'is'), {})
+        return 'x₀', '(refl, room₀)', Val(RECORDS, '(after count)', 'v', 'is'), {}
 
 
 PROOFS = [

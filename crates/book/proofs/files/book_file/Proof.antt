@@ -61,9 +61,9 @@ use Rattle.terms.proofs.Bucket.Laws as Bu′
 use Rattle.terms.specs.declared.BucketRecord.{BucketRecord}
 use Rattle.terms.proofs.BucketRecord as T
 use Rattle.terms.proofs.BucketRecord.Laws as T′
-use Rattle.recording.specs.declared.plans.BookingAnswer.{BookingAnswer}
-use Rattle.recording.proofs.plans.BookingAnswer as An
-use Rattle.recording.proofs.plans.BookingAnswer.Laws as An′
+use Rattle.recording.specs.declared.recorded.BookingAnswer.{BookingAnswer}
+use Rattle.recording.proofs.recorded.BookingAnswer as An
+use Rattle.recording.proofs.recorded.BookingAnswer.Laws as An′
 use Rattle.booking.proofs.book as book
 use Rattle.booking.proofs.book.Symbol as book-def
 use Rattle.booking.proofs.book.Symbol.{name as #book}
@@ -187,7 +187,16 @@ module _ {M : Type 1} (𝓤 : URA M) (H : Heap 𝓤) (A : Atoms 𝓤) (W : Given
   abbrev Post : Val → SProp 𝓤
   Post = walkOf 𝓤 H A self.ended stayed (self.clauses 𝓤 H A at-mem run) .post (((κ₀, (κ₁, tt)), (q₀, (q₁, tt)), tt, a, vals), tt)
 
-  module _ (C : Calls 𝓤 H) (Λ : Loops 𝓤 H) (fm : FmC 𝓤 H (W .laws) C) (known-book : Triple 𝓤 (C #book) (Book 𝓤 H A at-mem run)) where
+  module _ (𝓣 : Tables 𝓤 H) (known-book : Triple 𝓤 (𝓣 .C #book) (Book 𝓤 H A at-mem run)) where
+    abbrev C : Calls 𝓤 H
+    C = 𝓣 .C
+
+    abbrev Λ : Loops 𝓤 H
+    Λ = 𝓣 .Λ
+
+    fm : FmC 𝓤 H (W .laws) C
+    fm = fmOf 𝓤 H (W .laws) 𝓣
+
     module _ (l₀ l₁ l₂ l₃ l₄ l₅ l₆ l₇ l₈ l₉ l₁₀ l₁₁ l₁₂ l₁₃ l₁₄ l₁₅ l₁₆ l₁₇ : ℕ) where
       abbrev E : Env 𝓤 H
       E = (An′.mir, l₀) ∷ (sliceTy (tyRef (named 0) imm (tyInt w8)), l₁) ∷ (sliceTy (tyRef (named 1) mut (tyInt w8)), l₂) ∷ (T′.mir, l₃) ∷ (
@@ -547,14 +556,14 @@ module _ {M : Type 1} (𝓤 : URA M) (H : Heap 𝓤) (A : Atoms 𝓤) (W : Given
         starting l₀ l₁ l₂ l₃ l₄ l₅ l₆ l₇ l₈ l₉ l₁₀ l₁₁ l₁₂ l₁₃ l₁₄ l₁₅ l₁₆ l₁₇))))))))))))))))))
 
 module _ {M : Type 1} (𝓤 : URA M) (H : Heap 𝓤) (A : Atoms 𝓤) (W : Given 𝓤 H A) (at-mem : Memory → SProp 𝓤) (run : Routine → Fun 𝓤) where
-  walks : (C : Calls 𝓤 H) (Λ : Loops 𝓤 H) → FmC 𝓤 H (W .laws) C → Triple 𝓤 (C #book) (Book 𝓤 H A at-mem run)
-      → Walks 𝓤 H A self.ended stayed (WpFn 𝓤 H C Λ code.function) (self.clauses 𝓤 H A at-mem run)
-  walks C Λ fm known-book = walked 𝓤 H A self.ended stayed (self.clauses 𝓤 H A at-mem run) (WpFn 𝓤 H C Λ code.function)
+  walks : (𝓣 : Tables 𝓤 H) → Triple 𝓤 (𝓣 .C #book) (Book 𝓤 H A at-mem run)
+      → Walks 𝓤 H A self.ended stayed (WpFn 𝓤 H (𝓣 .C) (𝓣 .Λ) code.function) (self.clauses 𝓤 H A at-mem run)
+  walks 𝓣 known-book = walked 𝓤 H A self.ended stayed (self.clauses 𝓤 H A at-mem run) (WpFn 𝓤 H (𝓣 .C) (𝓣 .Λ) code.function)
       (λ κs. (slice-vals, (slice-vals, tt)))
       (λ κs. (shr-slice-tells (named 0) (κs .0) u8, (mut-slice-tells (named 1) (κs .1 .0) u8, tt)))
       (λ κs qs bounds a g are. needs 𝓤 (longestPlan ≤ length (a .1 .0 .now)) _ (λ long. walk 𝓤 H A W at-mem run (κs .0) (κs .1 .0) (qs .0) (qs .1 .0)
       (a .0 .ptr .0) (a .0 .ptr .1) (a .1 .0 .ptr .0) (a .1 .0 .ptr .1) (a .0 .name) (a .1 .0 .name) (a .0 .now) (a .1 .0 .now) (are .0 .0 .1)
-      (are .1 .0 .0 .1) long C Λ fm known-book))
+      (are .1 .0 .0 .1) long 𝓣 known-book))
 
   goes : AllGo 𝓤 H A W 2 (self.signature .params) (self.ended .kept) stayed
   goes = (goes-none-slice 𝓤 H A W 2 (0 ∷ []) tt (plain (λ _. u8)) yes, (goes-gave-slice 𝓤 H A W 2 1 tt (plain (λ _. u8)), tt))
@@ -564,7 +573,7 @@ meets : {M : Type 1} (𝓤 : URA M) (H : Heap 𝓤) (A : Atoms 𝓤) → Given �
     → Meets 𝓤 H A self.signature (WpFn 𝓤 H (𝓣 .C) (𝓣 .Λ) code.function) (self.spec 𝓤 H A at-mem run)
 meets 𝓤 H A W at-mem run 𝓣 known-book =
     walk-meets 𝓤 H A self.ended stayed W (goes 𝓤 H A W at-mem run) (self.clauses 𝓤 H A at-mem run)
-    (WpFn 𝓤 H (𝓣 .C) (𝓣 .Λ) code.function) (WpFn-mono 𝓤 H (W .laws) 𝓣 code.function) (walks 𝓤 H A W at-mem run (𝓣 .C) (𝓣 .Λ) (fmOf 𝓤 H (W .laws) 𝓣) known-book)
+    (WpFn 𝓤 H (𝓣 .C) (𝓣 .Λ) code.function) (WpFn-mono 𝓤 H (W .laws) 𝓣 code.function) (walks 𝓤 H A W at-mem run 𝓣 known-book)
 
 pub book-file-spec : {M : Type 1} → stated.statement M
 unfolding code.routine tablesOf

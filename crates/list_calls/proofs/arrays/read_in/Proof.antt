@@ -51,15 +51,15 @@ use Rattle.record_list.proofs.Prefix.{OwedMut, lends-front-mut, front-back-mut,
 use Rattle.terms.specs.declared.BucketRecord.{BucketRecord}
 use Rattle.terms.proofs.BucketRecord as T
 use Rattle.terms.proofs.BucketRecord.Laws as T′
-use Rattle.plan_file.specs.declared.plans.PlanAnswer.{PlanAnswer}
-use Rattle.plan_file.proofs.plans.PlanAnswer as F
-use Rattle.plan_file.proofs.plans.PlanAnswer.Laws as F′
+use Rattle.plan_file.specs.declared.answers.PlanAnswer.{PlanAnswer}
+use Rattle.plan_file.proofs.answers.PlanAnswer as F
+use Rattle.plan_file.proofs.answers.PlanAnswer.Laws as F′
 use Rattle.list_calls.proofs.arrays.ReadLent as S
 use Rattle.list_calls.proofs.arrays.ReadLent.Laws as S′
-use Rattle.plans.proofs.read_plan as read-plan
-use Rattle.plans.proofs.read_plan.Symbol as read-plan-def
-use Rattle.plans.proofs.read_plan.Symbol.{name as #read-plan}
-use Rattle.plans.proofs.read_plan.Met as read-plan-thm
+use Rattle.lent_plans.proofs.read_plan as read-plan
+use Rattle.lent_plans.proofs.read_plan.Symbol as read-plan-def
+use Rattle.lent_plans.proofs.read_plan.Symbol.{name as #read-plan}
+use Rattle.lent_plans.proofs.read_plan.Met as read-plan-thm
 use Rattle.list_calls.proofs.arrays.read_in.Key.{name as #key}
 use Rattle.list_calls.proofs.arrays.read_in as self
 use Rattle.list_calls.proofs.arrays.read_in.Statement as stated
@@ -96,7 +96,16 @@ module _ {M : Type 1} (𝓤 : URA M) (H : Heap 𝓤) (A : Atoms 𝓤) (W : Given
   abbrev Post : Val → SProp 𝓤
   Post = walkOf 𝓤 H A self.ended stayed (self.clauses 𝓤 H A at-mem run) .post (((κ₀, tt), (q₀, tt), tt, a, vals), tt)
 
-  module _ (C : Calls 𝓤 H) (Λ : Loops 𝓤 H) (fm : FmC 𝓤 H (W .laws) C) (known-read-plan : Triple 𝓤 (C #read-plan) (ReadPlan 𝓤 H A at-mem run)) where
+  module _ (𝓣 : Tables 𝓤 H) (known-read-plan : Triple 𝓤 (𝓣 .C #read-plan) (ReadPlan 𝓤 H A at-mem run)) where
+    abbrev C : Calls 𝓤 H
+    C = 𝓣 .C
+
+    abbrev Λ : Loops 𝓤 H
+    Λ = 𝓣 .Λ
+
+    fm : FmC 𝓤 H (W .laws) C
+    fm = fmOf 𝓤 H (W .laws) 𝓣
+
     module _ (l₀ l₁ l₂ l₃ l₄ l₅ l₆ l₇ l₈ : ℕ) where
       abbrev E : Env 𝓤 H
       E = (S′.mir, l₀) ∷ (sliceTy (tyRef (named 0) imm (tyInt w8)), l₁) ∷ (tyArray T′.mir 516, l₂) ∷ (tyInt w64, l₃) ∷ (tyArray T′.mir 516, l₄) ∷ (F′.mir, l₅)
@@ -274,9 +283,9 @@ module _ {M : Type 1} (𝓤 : URA M) (H : Heap 𝓤) (A : Atoms 𝓤) (W : Given
         starting l₀ l₁ l₂ l₃ l₄ l₅ l₆ l₇ l₈)))))))))
 
 module _ {M : Type 1} (𝓤 : URA M) (H : Heap 𝓤) (A : Atoms 𝓤) (W : Given 𝓤 H A) (at-mem : Memory → SProp 𝓤) (run : Routine → Fun 𝓤) where
-  walks : (C : Calls 𝓤 H) (Λ : Loops 𝓤 H) → FmC 𝓤 H (W .laws) C → Triple 𝓤 (C #read-plan) (ReadPlan 𝓤 H A at-mem run)
-      → Walks 𝓤 H A self.ended stayed (WpFn 𝓤 H C Λ code.function) (self.clauses 𝓤 H A at-mem run)
-  walks C Λ fm known-read-plan = walked 𝓤 H A self.ended stayed (self.clauses 𝓤 H A at-mem run) (WpFn 𝓤 H C Λ code.function)
+  walks : (𝓣 : Tables 𝓤 H) → Triple 𝓤 (𝓣 .C #read-plan) (ReadPlan 𝓤 H A at-mem run)
+      → Walks 𝓤 H A self.ended stayed (WpFn 𝓤 H (𝓣 .C) (𝓣 .Λ) code.function) (self.clauses 𝓤 H A at-mem run)
+  walks 𝓣 known-read-plan = walked 𝓤 H A self.ended stayed (self.clauses 𝓤 H A at-mem run) (WpFn 𝓤 H (𝓣 .C) (𝓣 .Λ) code.function)
       (λ κs. (slice-vals, (array-vals (LL.vals T.the-type T′.the-laws), (uint-vals w64, tt))))
       (λ κs. (
         shr-slice-tells (named 0) (κs .0) u8,
@@ -287,7 +296,7 @@ module _ {M : Type 1} (𝓤 : URA M) (H : Heap 𝓤) (A : Atoms 𝓤) (W : Given
       ))
       (λ κs qs bounds a g are. needs 𝓤 ((a .1 .1 .0) ≤ 516) _ (λ fits. walk 𝓤 H A W at-mem run (κs .0) (qs .0) (a .0 .ptr .0) (a .0 .ptr .1) (a .0 .name)
       (a .0 .now) (a .1 .0) (arrayVal (map (λ x. LL.val T.the-type T′.the-laws x) (a .1 .0))) (a .1 .1 .0) (are .0 .0 .1) (are .1 .0) (are .1 .1 .0 .1)
-      fits C Λ fm known-read-plan))
+      fits 𝓣 known-read-plan))
 
   goes : AllGo 𝓤 H A W 1 (self.signature .params) (self.ended .kept) stayed
   goes = (
@@ -303,8 +312,7 @@ meets : {M : Type 1} (𝓤 : URA M) (H : Heap 𝓤) (A : Atoms 𝓤) → Given �
     → Meets 𝓤 H A self.signature (WpFn 𝓤 H (𝓣 .C) (𝓣 .Λ) code.function) (self.spec 𝓤 H A at-mem run)
 meets 𝓤 H A W at-mem run 𝓣 known-read-plan =
     walk-meets 𝓤 H A self.ended stayed W (goes 𝓤 H A W at-mem run) (self.clauses 𝓤 H A at-mem run)
-    (WpFn 𝓤 H (𝓣 .C) (𝓣 .Λ) code.function) (WpFn-mono 𝓤 H (W .laws) 𝓣 code.function) (walks 𝓤 H A W at-mem run (𝓣 .C) (𝓣 .Λ) (fmOf 𝓤 H (W .laws) 𝓣)
-    known-read-plan)
+    (WpFn 𝓤 H (𝓣 .C) (𝓣 .Λ) code.function) (WpFn-mono 𝓤 H (W .laws) 𝓣 code.function) (walks 𝓤 H A W at-mem run 𝓣 known-read-plan)
 
 pub read-in-spec : {M : Type 1} → stated.statement M
 unfolding code.routine tablesOf
@@ -312,4 +320,5 @@ read-in-spec 𝓤 H 𝓜 𝓖 𝓡 =
     entered 𝓤 H (tripleOf 𝓤 H (𝓖 .A) self.signature (self.spec 𝓤 H (𝓖 .A) (𝓜 .mem) (𝓡 .run)))
     (tables 𝓤 H 𝓜 𝓡 code.env .C) (tables 𝓤 H 𝓜 𝓡 code.env .Λ) #key code.function (code.unfolded 𝓤 H 𝓜 𝓡)
     (meets 𝓤 H (𝓖 .A) (givenOf 𝓤 H 𝓜 𝓖) (𝓜 .mem) (𝓡 .run) (tablesOf 𝓤 H 𝓜 (tables 𝓤 H 𝓜 𝓡 code.env))
-    (cited 𝓤 H (ReadPlan 𝓤 H (𝓖 .A) (𝓜 .mem) (𝓡 .run)) 𝓜 𝓡 code.env #read-plan read-plan-def.routine code.calls-plans·read-plan (read-plan-thm.met 𝓤 H 𝓜 𝓖 𝓡)))
+    (cited 𝓤 H (ReadPlan 𝓤 H (𝓖 .A) (𝓜 .mem) (𝓡 .run))
+    𝓜 𝓡 code.env #read-plan read-plan-def.routine code.calls-lent-plans·read-plan (read-plan-thm.met 𝓤 H 𝓜 𝓖 𝓡)))

@@ -54,15 +54,15 @@ use Rattle.terms.proofs.BucketRecord.Laws as T′
 use Rattle.terms.specs.declared.Tariff.{Tariff}
 use Rattle.terms.proofs.Tariff as P
 use Rattle.terms.proofs.Tariff.Laws as P′
-use Rattle.series.specs.declared.plans.SeriesAnswer.{SeriesAnswer}
-use Rattle.series.proofs.plans.SeriesAnswer as F
-use Rattle.series.proofs.plans.SeriesAnswer.Laws as F′
+use Rattle.series.specs.declared.answers.SeriesAnswer.{SeriesAnswer}
+use Rattle.series.proofs.answers.SeriesAnswer as F
+use Rattle.series.proofs.answers.SeriesAnswer.Laws as F′
 use Rattle.list_calls.proofs.arrays.SeriesLent as S
 use Rattle.list_calls.proofs.arrays.SeriesLent.Laws as S′
-use Rattle.plans.proofs.series as series
-use Rattle.plans.proofs.series.Symbol as series-def
-use Rattle.plans.proofs.series.Symbol.{name as #series}
-use Rattle.plans.proofs.series.Met as series-thm
+use Rattle.lent_plans.proofs.series as series
+use Rattle.lent_plans.proofs.series.Symbol as series-def
+use Rattle.lent_plans.proofs.series.Symbol.{name as #series}
+use Rattle.lent_plans.proofs.series.Met as series-thm
 use Rattle.list_calls.proofs.arrays.series_in.Key.{name as #key}
 use Rattle.list_calls.proofs.arrays.series_in as self
 use Rattle.list_calls.proofs.arrays.series_in.Statement as stated
@@ -109,7 +109,16 @@ module _ {M : Type 1} (𝓤 : URA M) (H : Heap 𝓤) (A : Atoms 𝓤) (W : Given
   abbrev Post : Val → SProp 𝓤
   Post = walkOf 𝓤 H A self.ended stayed (self.clauses 𝓤 H A at-mem run) .post (((κ₀, tt), (q₀, tt), tt, a, vals), tt)
 
-  module _ (C : Calls 𝓤 H) (Λ : Loops 𝓤 H) (fm : FmC 𝓤 H (W .laws) C) (known-series : Triple 𝓤 (C #series) (Series 𝓤 H A at-mem run)) where
+  module _ (𝓣 : Tables 𝓤 H) (known-series : Triple 𝓤 (𝓣 .C #series) (Series 𝓤 H A at-mem run)) where
+    abbrev C : Calls 𝓤 H
+    C = 𝓣 .C
+
+    abbrev Λ : Loops 𝓤 H
+    Λ = 𝓣 .Λ
+
+    fm : FmC 𝓤 H (W .laws) C
+    fm = fmOf 𝓤 H (W .laws) 𝓣
+
     module _ (l₀ l₁ l₂ l₃ l₄ l₅ l₆ l₇ l₈ l₉ : ℕ) where
       abbrev E : Env 𝓤 H
       E = (S′.mir, l₀) ∷ (sliceTy (tyRef (named 0) imm (tyInt w16)), l₁) ∷ (P′.mir, l₂) ∷ (tyArray T′.mir 516, l₃) ∷ (tyInt w64, l₄) ∷ (tyArray T′.mir 516, l₅)
@@ -294,9 +303,9 @@ module _ {M : Type 1} (𝓤 : URA M) (H : Heap 𝓤) (A : Atoms 𝓤) (W : Given
         starting l₀ l₁ l₂ l₃ l₄ l₅ l₆ l₇ l₈ l₉))))))))))
 
 module _ {M : Type 1} (𝓤 : URA M) (H : Heap 𝓤) (A : Atoms 𝓤) (W : Given 𝓤 H A) (at-mem : Memory → SProp 𝓤) (run : Routine → Fun 𝓤) where
-  walks : (C : Calls 𝓤 H) (Λ : Loops 𝓤 H) → FmC 𝓤 H (W .laws) C → Triple 𝓤 (C #series) (Series 𝓤 H A at-mem run)
-      → Walks 𝓤 H A self.ended stayed (WpFn 𝓤 H C Λ code.function) (self.clauses 𝓤 H A at-mem run)
-  walks C Λ fm known-series = walked 𝓤 H A self.ended stayed (self.clauses 𝓤 H A at-mem run) (WpFn 𝓤 H C Λ code.function)
+  walks : (𝓣 : Tables 𝓤 H) → Triple 𝓤 (𝓣 .C #series) (Series 𝓤 H A at-mem run)
+      → Walks 𝓤 H A self.ended stayed (WpFn 𝓤 H (𝓣 .C) (𝓣 .Λ) code.function) (self.clauses 𝓤 H A at-mem run)
+  walks 𝓣 known-series = walked 𝓤 H A self.ended stayed (self.clauses 𝓤 H A at-mem run) (WpFn 𝓤 H (𝓣 .C) (𝓣 .Λ) code.function)
       (λ κs. (slice-vals, (LL.vals P.the-type P′.the-laws, (array-vals (LL.vals T.the-type T′.the-laws), (uint-vals w64, tt)))))
       (λ κs. (
         shr-slice-tells (named 0) (κs .0) u16,
@@ -311,7 +320,7 @@ module _ {M : Type 1} (𝓤 : URA M) (H : Heap 𝓤) (A : Atoms 𝓤) (W : Given
       ))
       (λ κs qs bounds a g are. needs 𝓤 ((a .1 .1 .1 .0) ≤ 516) _ (λ fits. walk 𝓤 H A W at-mem run (κs .0) (qs .0) (a .0 .ptr .0) (a .0 .ptr .1) (a .0 .name)
       (a .0 .now) (a .1 .0) (LL.val P.the-type P′.the-laws (a .1 .0)) (a .1 .1 .0) (arrayVal (map (λ x. LL.val T.the-type T′.the-laws x) (a .1 .1 .0)))
-      (a .1 .1 .1 .0) (are .0 .0 .1) (are .1 .0) (are .1 .1 .0) (are .1 .1 .1 .0 .1) fits C Λ fm known-series))
+      (a .1 .1 .1 .0) (are .0 .0 .1) (are .1 .0) (are .1 .1 .0) (are .1 .1 .1 .0 .1) fits 𝓣 known-series))
 
   goes : AllGo 𝓤 H A W 1 (self.signature .params) (self.ended .kept) stayed
   goes = (
@@ -327,8 +336,7 @@ meets : {M : Type 1} (𝓤 : URA M) (H : Heap 𝓤) (A : Atoms 𝓤) → Given �
     → Meets 𝓤 H A self.signature (WpFn 𝓤 H (𝓣 .C) (𝓣 .Λ) code.function) (self.spec 𝓤 H A at-mem run)
 meets 𝓤 H A W at-mem run 𝓣 known-series =
     walk-meets 𝓤 H A self.ended stayed W (goes 𝓤 H A W at-mem run) (self.clauses 𝓤 H A at-mem run)
-    (WpFn 𝓤 H (𝓣 .C) (𝓣 .Λ) code.function) (WpFn-mono 𝓤 H (W .laws) 𝓣 code.function) (walks 𝓤 H A W at-mem run (𝓣 .C) (𝓣 .Λ) (fmOf 𝓤 H (W .laws) 𝓣)
-    known-series)
+    (WpFn 𝓤 H (𝓣 .C) (𝓣 .Λ) code.function) (WpFn-mono 𝓤 H (W .laws) 𝓣 code.function) (walks 𝓤 H A W at-mem run 𝓣 known-series)
 
 pub series-in-spec : {M : Type 1} → stated.statement M
 unfolding code.routine tablesOf
@@ -336,4 +344,4 @@ series-in-spec 𝓤 H 𝓜 𝓖 𝓡 =
     entered 𝓤 H (tripleOf 𝓤 H (𝓖 .A) self.signature (self.spec 𝓤 H (𝓖 .A) (𝓜 .mem) (𝓡 .run)))
     (tables 𝓤 H 𝓜 𝓡 code.env .C) (tables 𝓤 H 𝓜 𝓡 code.env .Λ) #key code.function (code.unfolded 𝓤 H 𝓜 𝓡)
     (meets 𝓤 H (𝓖 .A) (givenOf 𝓤 H 𝓜 𝓖) (𝓜 .mem) (𝓡 .run) (tablesOf 𝓤 H 𝓜 (tables 𝓤 H 𝓜 𝓡 code.env))
-    (cited 𝓤 H (Series 𝓤 H (𝓖 .A) (𝓜 .mem) (𝓡 .run)) 𝓜 𝓡 code.env #series series-def.routine code.calls-plans·series (series-thm.met 𝓤 H 𝓜 𝓖 𝓡)))
+    (cited 𝓤 H (Series 𝓤 H (𝓖 .A) (𝓜 .mem) (𝓡 .run)) 𝓜 𝓡 code.env #series series-def.routine code.calls-lent-plans·series (series-thm.met 𝓤 H 𝓜 𝓖 𝓡)))

@@ -51,16 +51,16 @@ use Rattle.record_list.proofs.Prefix.{OwedImm, lends-front-imm, front-back-imm}
 use Rattle.terms.specs.declared.BucketRecord.{BucketRecord}
 use Rattle.terms.proofs.BucketRecord as T
 use Rattle.terms.proofs.BucketRecord.Laws as T′
-use Rattle.plan_file.specs.declared.plans.PlanFigures.{PlanFigures}
-use Rattle.plan_file.proofs.plans.PlanFigures as P
-use Rattle.plan_file.proofs.plans.PlanFigures.Laws as P′
+use Rattle.plan_file.specs.declared.answers.PlanFigures.{PlanFigures}
+use Rattle.plan_file.proofs.answers.PlanFigures as P
+use Rattle.plan_file.proofs.answers.PlanFigures.Laws as P′
 use Rattle.encoding.specs.declared.fills.FillAnswer.{FillAnswer}
 use Rattle.encoding.proofs.fills.FillAnswer as F
 use Rattle.encoding.proofs.fills.FillAnswer.Laws as F′
-use Rattle.plans.proofs.write_plan as write-plan
-use Rattle.plans.proofs.write_plan.Symbol as write-plan-def
-use Rattle.plans.proofs.write_plan.Symbol.{name as #write-plan}
-use Rattle.plans.proofs.write_plan.Met as write-plan-thm
+use Rattle.lent_plans.proofs.write_plan as write-plan
+use Rattle.lent_plans.proofs.write_plan.Symbol as write-plan-def
+use Rattle.lent_plans.proofs.write_plan.Symbol.{name as #write-plan}
+use Rattle.lent_plans.proofs.write_plan.Met as write-plan-thm
 use Rattle.list_calls.proofs.arrays.write_in.Key.{name as #key}
 use Rattle.list_calls.proofs.arrays.write_in as self
 use Rattle.list_calls.proofs.arrays.write_in.Statement as stated
@@ -111,7 +111,16 @@ module _ {M : Type 1} (𝓤 : URA M) (H : Heap 𝓤) (A : Atoms 𝓤) (W : Given
   abbrev Post : Val → SProp 𝓤
   Post = walkOf 𝓤 H A self.ended stayed (self.clauses 𝓤 H A at-mem run) .post (((κ₀, tt), (q₀, tt), tt, a, vals), tt)
 
-  module _ (C : Calls 𝓤 H) (Λ : Loops 𝓤 H) (fm : FmC 𝓤 H (W .laws) C) (known-write-plan : Triple 𝓤 (C #write-plan) (WritePlan 𝓤 H A at-mem run)) where
+  module _ (𝓣 : Tables 𝓤 H) (known-write-plan : Triple 𝓤 (𝓣 .C #write-plan) (WritePlan 𝓤 H A at-mem run)) where
+    abbrev C : Calls 𝓤 H
+    C = 𝓣 .C
+
+    abbrev Λ : Loops 𝓤 H
+    Λ = 𝓣 .Λ
+
+    fm : FmC 𝓤 H (W .laws) C
+    fm = fmOf 𝓤 H (W .laws) 𝓣
+
     module _ (l₀ l₁ l₂ l₃ l₄ l₅ l₆ l₇ l₈ l₉ : ℕ) where
       abbrev E : Env 𝓤 H
       E = (F′.mir, l₀) ∷ (P′.mir, l₁) ∷ (tyArray T′.mir 516, l₂) ∷ (tyInt w64, l₃) ∷ (sliceTy (tyRef (named 0) mut (tyInt w8)), l₄) ∷ (tyArray T′.mir 516, l₅)
@@ -268,9 +277,9 @@ module _ {M : Type 1} (𝓤 : URA M) (H : Heap 𝓤) (A : Atoms 𝓤) (W : Given
         starting l₀ l₁ l₂ l₃ l₄ l₅ l₆ l₇ l₈ l₉))))))))))
 
 module _ {M : Type 1} (𝓤 : URA M) (H : Heap 𝓤) (A : Atoms 𝓤) (W : Given 𝓤 H A) (at-mem : Memory → SProp 𝓤) (run : Routine → Fun 𝓤) where
-  walks : (C : Calls 𝓤 H) (Λ : Loops 𝓤 H) → FmC 𝓤 H (W .laws) C → Triple 𝓤 (C #write-plan) (WritePlan 𝓤 H A at-mem run)
-      → Walks 𝓤 H A self.ended stayed (WpFn 𝓤 H C Λ code.function) (self.clauses 𝓤 H A at-mem run)
-  walks C Λ fm known-write-plan = walked 𝓤 H A self.ended stayed (self.clauses 𝓤 H A at-mem run) (WpFn 𝓤 H C Λ code.function)
+  walks : (𝓣 : Tables 𝓤 H) → Triple 𝓤 (𝓣 .C #write-plan) (WritePlan 𝓤 H A at-mem run)
+      → Walks 𝓤 H A self.ended stayed (WpFn 𝓤 H (𝓣 .C) (𝓣 .Λ) code.function) (self.clauses 𝓤 H A at-mem run)
+  walks 𝓣 known-write-plan = walked 𝓤 H A self.ended stayed (self.clauses 𝓤 H A at-mem run) (WpFn 𝓤 H (𝓣 .C) (𝓣 .Λ) code.function)
       (λ κs. (LL.vals P.the-type P′.the-laws, (array-vals (LL.vals T.the-type T′.the-laws), (uint-vals w64, (slice-vals, tt)))))
       (λ κs. (
         LL.tells P.the-type P′.the-laws,
@@ -284,7 +293,7 @@ module _ {M : Type 1} (𝓤 : URA M) (H : Heap 𝓤) (A : Atoms 𝓤) (W : Given
       ))
       (λ κs qs bounds a g are. needs 𝓤 ((a .1 .1 .0) ≤ 516) _ (λ fits. walk 𝓤 H A W at-mem run (κs .0) (qs .0) (a .1 .1 .1 .0 .ptr .0) (a .1 .1 .1 .0 .ptr .1)
       (a .1 .1 .1 .0 .name) (a .0) (LL.val P.the-type P′.the-laws (a .0)) (a .1 .0) (arrayVal (map (λ x. LL.val T.the-type T′.the-laws x) (a .1 .0)))
-      (a .1 .1 .0) (a .1 .1 .1 .0 .now) (are .0) (are .1 .0) (are .1 .1 .0 .1) (are .1 .1 .1 .0 .0 .1) fits C Λ fm known-write-plan))
+      (a .1 .1 .0) (a .1 .1 .1 .0 .now) (are .0) (are .1 .0) (are .1 .1 .0 .1) (are .1 .1 .1 .0 .0 .1) fits 𝓣 known-write-plan))
 
   goes : AllGo 𝓤 H A W 1 (self.signature .params) (self.ended .kept) stayed
   goes = (
@@ -300,8 +309,7 @@ meets : {M : Type 1} (𝓤 : URA M) (H : Heap 𝓤) (A : Atoms 𝓤) → Given �
     → Meets 𝓤 H A self.signature (WpFn 𝓤 H (𝓣 .C) (𝓣 .Λ) code.function) (self.spec 𝓤 H A at-mem run)
 meets 𝓤 H A W at-mem run 𝓣 known-write-plan =
     walk-meets 𝓤 H A self.ended stayed W (goes 𝓤 H A W at-mem run) (self.clauses 𝓤 H A at-mem run)
-    (WpFn 𝓤 H (𝓣 .C) (𝓣 .Λ) code.function) (WpFn-mono 𝓤 H (W .laws) 𝓣 code.function) (walks 𝓤 H A W at-mem run (𝓣 .C) (𝓣 .Λ) (fmOf 𝓤 H (W .laws) 𝓣)
-    known-write-plan)
+    (WpFn 𝓤 H (𝓣 .C) (𝓣 .Λ) code.function) (WpFn-mono 𝓤 H (W .laws) 𝓣 code.function) (walks 𝓤 H A W at-mem run 𝓣 known-write-plan)
 
 pub write-in-spec : {M : Type 1} → stated.statement M
 unfolding code.routine tablesOf
@@ -310,4 +318,4 @@ write-in-spec 𝓤 H 𝓜 𝓖 𝓡 =
     (tables 𝓤 H 𝓜 𝓡 code.env .C) (tables 𝓤 H 𝓜 𝓡 code.env .Λ) #key code.function (code.unfolded 𝓤 H 𝓜 𝓡)
     (meets 𝓤 H (𝓖 .A) (givenOf 𝓤 H 𝓜 𝓖) (𝓜 .mem) (𝓡 .run) (tablesOf 𝓤 H 𝓜 (tables 𝓤 H 𝓜 𝓡 code.env))
     (cited 𝓤 H (WritePlan 𝓤 H (𝓖 .A) (𝓜 .mem) (𝓡 .run))
-    𝓜 𝓡 code.env #write-plan write-plan-def.routine code.calls-plans·write-plan (write-plan-thm.met 𝓤 H 𝓜 𝓖 𝓡)))
+    𝓜 𝓡 code.env #write-plan write-plan-def.routine code.calls-lent-plans·write-plan (write-plan-thm.met 𝓤 H 𝓜 𝓖 𝓡)))

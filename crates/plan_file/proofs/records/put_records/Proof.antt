@@ -12,7 +12,7 @@ use Rattle.encoding.specs.StoreLaws.{Storing, none-stored, some-stored, all-sto
 use Rattle.record_list.specs.Held.{noRecord}
 use Rattle.plan_file.specs.Plan.{recordBytes}
 use Rattle.plan_file.specs.PlanRules.{length-record}
-use Rattle.plan_file.specs.RecordLaws.{first-next, first-none}
+use Rattle.record_list.specs.PartLaws.{rest-next, rest-none}
 use Rattle.plan_file.proofs.records.put_records.Statement.{statement}
 use Rattle.plan_file.proofs.records.put_records.Tie as tie
 
@@ -35,12 +35,12 @@ module _ (old : List ℕ) (at k : ℕ) (records : Cutting) where
         let x = getD records i noRecord in
         record {
           place = omega (arith, p .place);
-          stored = some-stored (p .stored) (recordBytes x) (left (i + 1)) new′ 12 (length-record x) (ap (bytesOfAll recordBytes) (first-next k records m i l)) e;
+          stored = some-stored (p .stored) (recordBytes x) (left (i + 1)) new′ 12 (length-record x) (ap (bytesOfAll recordBytes) (rest-next k records m i l)) e;
         }
 
     end : k ≤ i → new ≡ sets old at (left 0)
     unfolding bytesOfAll
-    end l = all-stored (p .stored) (ap (bytesOfAll recordBytes) (first-none k records i l))
+    end l = all-stored (p .stored) (ap (bytesOfAll recordBytes) (rest-none k records i l))
 
 abbrev Inv-loop : tie.InvT-loop
 Inv-loop bytes₀ at buckets records next₀ i₀ bytes next i = Putting bytes₀ at buckets records bytes next i

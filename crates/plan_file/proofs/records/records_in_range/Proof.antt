@@ -4,7 +4,8 @@ use native.Mathlib.Omega.{arith}
 use mathlib.Core.Path.{_∙_}
 use lib.ListN.{take, drop}
 use borrow.Author.Needs.{needs}
-use Rattle.plan_file.specs.RecordLaws.{Weighed, none-weighed, one-weighed, all-weighed, first-next, first-none}
+use Rattle.record_list.specs.PartLaws.{rest-next, rest-none}
+use Rattle.plan_file.specs.RecordLaws.{Weighed, none-weighed, one-weighed, all-weighed}
 use Rattle.plan_file.proofs.records.records_in_range.Statement.{statement}
 use Rattle.plan_file.proofs.records.records_in_range.Tie as tie
 
@@ -29,11 +30,11 @@ loop-again : tie.Need-loop-again Inv-loop μ-loop
 loop-again c =
     let i = c .before .before in
     let s = i .before .before in
-    let next = first-next (s .args .buckets) (s .args .t3) (omega (arith, s .pre, s .good .1 .1 .0 .1 .0 .1)) (i .before .loop .i) (i .loop-test .taken) in
+    let next = rest-next (s .args .buckets) (s .args .t3) (omega (arith, s .pre, s .good .1 .1 .0 .1 .0 .1)) (i .before .loop .i) (i .loop-test .taken) in
     one-weighed _ (i .before .loop .inv) _ _ next _ (c .push .ensures .0) (c .push .ensures .1)
 
 returns : tie.Need-returns Inv-loop μ-loop
-returns c = c .whole .ensures ∙ all-weighed _ (c .before .before .loop .inv) (first-none _ _ _ (c .before .loop-test .left)) _
+returns c = c .whole .ensures ∙ all-weighed _ (c .before .before .loop .inv) (rest-none _ _ _ (c .before .loop-test .left)) _
 
 pub records-in-range-spec : {M : Type 1} → statement M
 records-in-range-spec =

@@ -212,7 +212,7 @@ module _ {M : Type 1} (𝓤 : URA M) (H : Heap 𝓤) (A : Atoms 𝓤) (W : Given
             qed W ((‵ ftrue) ∷ ‵ (owns ((Array T.the-row 512) ∷ usize ∷ T.the-row ∷ []) (to-putting .0 .3) (to-putting .0 .4)) ∷ []) ∵
             says ! (lt-of-lt-of-le (ltb→lt (i .0) count less) (le .1)) $ frame ! $ done !
 
-      exits : (v : Val) → Is (Array T.the-row 512) (after count) (v ∷ []) → ent 𝓤 (⋆ 𝓤 H A (‵ (flft κ₀ q₀) ∷
+      exits : (v : Val) (is : Is (Array T.the-row 512) (after count) (v ∷ [])) → ent 𝓤 (⋆ 𝓤 H A (‵ (flft κ₀ q₀) ∷
           ‵ (fres γ₀ (codedHoleys T.the-row .code (heres T.the-row list))) ∷ ‵ (fshr-bor κ₀ (λ s. arr-parts (shares T.the-row) (length list)
           .part s list b₀ o₀)) ∷ [])) (Post v)
       exits v is =

@@ -12,8 +12,8 @@ use Rattle.meter.specs.Meter.{meterRun, openSays}
 use Rattle.meter.specs.MeterLaws.{Sound}
 use Rattle.meter.specs.MeterRuns.{metered-sound}
 use Rattle.record_list.specs.Held.{noRecord}
-use Rattle.record_list.specs.PartLaws.{part-is}
-use Rattle.recording.specs.MeteringLaws.{Metering, none-metered, one-metered, all-metered, run-inside, run-refused}
+use Rattle.record_list.specs.PartLaws.{part-is, run-inside}
+use Rattle.recording.specs.MeteringLaws.{Metering, none-metered, one-metered, all-metered, run-refused}
 use borrow.Author.Needs.{needs}
 use Rattle.recording.proofs.metering.meter_runs.Statement.{statement}
 use Rattle.recording.proofs.metering.meter_runs.Tie as tie
@@ -33,7 +33,10 @@ fits s = let l = s .pre .0 in omega (arith, l .few, l .periods .few, s .good .1 
 -- the run's part of the trace
 inside : (c : tie.In-loop Inv-loop μ-loop) → let s = start-of c .args in
     c .before .loop .start + getD (s .t4) (c .before .loop .i) noRecord .periods ≤ length (s .trace .now)
-inside c = run-inside _ _ _ _ (c .before .loop .inv) (fits (start-of c)) (c .loop-test .taken)
+inside c =
+    let s = start-of c in
+    let l = c .before .loop in
+    run-inside (s .args .buckets) (s .args .t4) (s .args .trace .now) (l .start) (l .i) (l .inv .begins) (fits s) (c .loop-test .taken)
 
 abbrev entered : tie.After-meter-run Inv-loop μ-loop → tie.In-loop Inv-loop μ-loop
 entered c = c .before .before .before .before

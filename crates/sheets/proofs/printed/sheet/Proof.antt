@@ -1,29 +1,29 @@
--- The lists hold the plan found; the array holds the longest sheet, and its front is the sheet.
+-- The arrays hold the plan found; the text put together holds the longest sheet, and its front is the sheet.
 use mathlib.Core.Path.{ap}
-use Rattle.planning.specs.declared.orders.PlannedLists.{PlannedLists}
+use Rattle.planning.specs.declared.planned_orders.PlannedRecords.{PlannedRecords}
 use Rattle.planning.specs.Planning.{plannedSays}
 use Rattle.text.specs.FittedLaws.{long, zeros, ready-count, ready-inside, ready-fills}
 use Rattle.sheets.specs.LengthLaws.{longestSheet}
-use Rattle.sheets.specs.SheetLaws.{Shown, plan-refused, shown, sheet-filled, sheet-room}
+use Rattle.sheets.specs.SheetLaws.{Shown, shown, sheet-filled, sheet-refused, sheet-room}
 use borrow.Author.Needs.{needs}
 use Rattle.sheets.proofs.printed.sheet.Statement.{statement}
 use Rattle.sheets.proofs.printed.sheet.Tie as tie
 
-abbrev plan-at : tie.After-answer → tie.After-plan-any
+abbrev plan-at : tie.After-answer → tie.After-plan-order
 plan-at a = a .before .before
 
-abbrev lists-at : tie.After-answer → PlannedLists
-lists-at a = plan-at a .plan-any .result
+abbrev planned-at : tie.After-answer → PlannedRecords
+planned-at a = plan-at a .plan-order .result
 
--- the lists hold a plan that can be printed
-ready : (a : tie.After-answer) → let r = lists-at a in Shown (a .answer .given .0 .0) (r .demands) (r .runs) (r .rates) (r .depths)
-ready a = shown _ (lists-at a) (plan-at a .plan-any .ensures) _ (ap plannedSays (a .answer .given .1))
+-- the arrays hold a plan that can be printed
+ready : (a : tie.After-answer) → let r = planned-at a in Shown (a .answer .given .0 .0) (r .demands) (r .records)
+ready a = shown _ (planned-at a) (plan-at a .plan-order .ensures) _ (ap plannedSays (a .answer .given .1))
 
-abbrev found-at : tie.After-depths2 → tie.After-answer
-found-at c = c .before .before .before .before .before .before .before .before .before .before
+abbrev found-at : tie.After-demands2 → tie.After-answer
+found-at c = c .before .before .before .before .before
 
-plan-any-requires : tie.Need-plan-any-requires
-plan-any-requires c κs = search needs
+plan-order-requires : tie.Need-plan-order-requires
+plan-order-requires c κs = search needs
 
 enum-known-answer : tie.Need-enum-known-answer
 enum-known-answer c = search needs
@@ -34,22 +34,13 @@ enum-known-answer-2 c = search needs
 returns : tie.Need-returns
 returns c =
     let p = c .before .before .before in
-    plan-refused _ (p .plan-any .result) (p .plan-any .ensures) _ (ap plannedSays (c .before .answer2 .given .1)) (p .before .before .before .args .text .now)
+    sheet-refused _ (p .plan-order .result) (p .plan-order .ensures) _ (ap plannedSays (c .before .answer2 .given .1)) (p .before .before .before .args .text .now)
 
 slice-aggregate-put-sheet : tie.Need-slice-aggregate-put-sheet
 slice-aggregate-put-sheet c = search needs
 
 slice-aggregate-put-sheet-2 : tie.Need-slice-aggregate-put-sheet-2
 slice-aggregate-put-sheet-2 c = search needs
-
-slice-aggregate-put-sheet-3 : tie.Need-slice-aggregate-put-sheet-3
-slice-aggregate-put-sheet-3 c = search needs
-
-slice-aggregate-put-sheet-4 : tie.Need-slice-aggregate-put-sheet-4
-slice-aggregate-put-sheet-4 c = search needs
-
-slice-aggregate-put-sheet-5 : tie.Need-slice-aggregate-put-sheet-5
-slice-aggregate-put-sheet-5 c = search needs
 
 put-sheet-requires : tie.Need-put-sheet-requires
 put-sheet-requires c κs = (ready (found-at c), long longestSheet)
@@ -75,22 +66,19 @@ returns-2 c =
     let p = c .before .before .before .before .before .before in
     let a = found-at (p .before) in
     let old = plan-at a .before .before .before .args .text .now in
-    sheet-filled _ (lists-at a) (plan-at a .plan-any .ensures) _ (ap plannedSays (a .answer .given .1)) old _ _
+    sheet-filled _ (planned-at a) (plan-at a .plan-order .ensures) _ (ap plannedSays (a .answer .given .1)) old _ _
     (ready-fills _ _ (sheet-room (ready a) (zeros longestSheet) (long longestSheet)) _ _ (p .put-sheet .ensures) old _ _ (c .before .before .fill .ensures))
 
 pub sheet-spec : {M : Type 1} → statement M
 sheet-spec =
     tie.close
     (tie.spec
-    plan-any-requires
+    plan-order-requires
     enum-known-answer
     enum-known-answer-2
     returns
     slice-aggregate-put-sheet
     slice-aggregate-put-sheet-2
-    slice-aggregate-put-sheet-3
-    slice-aggregate-put-sheet-4
-    slice-aggregate-put-sheet-5
     put-sheet-requires
     array-share-prefix-ready
     slice-aggregate-fill

@@ -1,7 +1,8 @@
-// The sheet of a plan, from the lists that hold its demands and records. Public only for this crate's
+// The sheet of a plan, from the arrays that hold its demands and records. Public only for this crate's
 // calls, which show what is required.
 use crate::runs::put_runs;
-use planning::orders::PlannedOrder;
+use planning::planned_orders::PlannedOrder;
+use terms::BucketRecord;
 use terms::limits::TRACE_LIMIT;
 use text::lines::put_plan_line;
 ghost use mathlib.Core.Path.{_≡_};
@@ -24,29 +25,16 @@ pub fn put_sheet(
     text: &mut [u8],
     found: PlannedOrder,
     demands: &[u16],
-    runs: &[u32],
-    rates: &[u32],
-    depths: &[u32],
+    records: [BucketRecord; TRACE_LIMIT],
 ) -> usize
-    requires { ⌜ Shown found (now demands) (now runs) (now rates) (now depths) ⌝ }
+    requires { ⌜ Shown found (now demands) records ⌝ }
     requires { ⌜ length (now text) ≡ longestSheet ⌝ }
-    ensures { λ r. ⌜ Puts (now (text .entry)) 0
-        (shownText found (now (demands .entry)) (now (runs .entry)) (now (rates .entry)) (now (depths .entry)))
-        (now (text .exit)) r ⌝ }
+    ensures { λ r. ⌜ Puts (now (text .entry)) 0 (shownText found (now (demands .entry)) records) (now (text .exit)) r ⌝ }
 {
     let order = found.order;
     let plan = found.plan;
     let factor = order.tariff.factor;
     let lines = put_plan_line(text, 0, order.periods, plan.buckets, plan.cost);
     let trace = &demands[..order.periods as usize];
-    put_runs(
-        text,
-        lines,
-        factor,
-        trace,
-        plan.buckets as usize,
-        runs,
-        rates,
-        depths,
-    )
+    put_runs(text, lines, factor, trace, plan.buckets as usize, records)
 }
