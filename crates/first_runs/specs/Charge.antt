@@ -1,5 +1,4 @@
--- What a bucket costs in a period, without the fee (01, "Single": rate price × r + depth price × B), and from which
--- such charge on a walk through a trace can stop.
+-- The charge of a walk through a trace, and from which charge on it can stop.
 -- Assumes nothing.
 use Prim.Native.Nat.{ℕ, _+_, _*_, _≤_, _<_}
 use mathlib.Core.Path.{_≡_}
@@ -10,11 +9,10 @@ use Rattle.terms.specs.Answer.{Answer, figures, refused}
 use Rattle.terms.specs.Limits.{traceLimit}
 use Rattle.depth.specs.declared.walk.Walk.{Walk}
 use Rattle.depth.specs.Walk.{pushed, depthFrom}
+use Rattle.single.specs.Cost.{chargeOf, costAt}
+use Rattle.single.specs.Single.{bucketOf}
 use Rattle.first_runs.specs.declared.charges.Charged.{Charged}
 use Rattle.first_runs.specs.Outline.{unpriced}
-
-abbrev pub chargeOf : Tariff → ℕ → ℕ → ℕ
-chargeOf t r B = t .«rate_price» .0 * r + t .«depth_price» .0 * B
 
 -- The depth that the periods walked need.
 abbrev pub walkDepth : Tariff → Walk → Answer ℕ
@@ -26,7 +24,7 @@ noCharge = 2000000000000000000
 
 -- The charge of a rate with a depth, if there is one.
 abbrev pub chargeAt : Tariff → ℕ → Answer ℕ → ℕ
-chargeAt t r (figures B) = chargeOf t r B
+chargeAt t r (figures B) = chargeOf t (bucketOf r B)
 chargeAt t r (refused n) = noCharge
 
 -- One period more of a walk at rate `high`: its charge is that of rate `low` with the depth that the periods walked
@@ -49,10 +47,10 @@ pub record StopsAt (known rest periods stop : ℕ) : Type 0 where
 -- By the length of a first run, less 1, the charges at which a walk can stop: no run of that length or longer, with the
 -- best cutting of what is left, costs as little as what is known.
 -- `costs` holds what the best cuttings of what is left cost.
-pub record Stops (fee known : ℕ) (costs stops : List ℕ) : Type 0 where
+pub record Stops (t : Tariff) (known : ℕ) (costs stops : List ℕ) : Type 0 where
   pub room : length costs ≤ length stops
   pub below : (i : ℕ) → i < length costs → getD stops i 0 < noCharge
-  pub beyond : (i j charge : ℕ) → i ≤ j → j < length costs → getD stops i 0 ≤ charge → known < charge * (j + 1) + fee + getD costs j 0
+  pub beyond : (i j charge : ℕ) → i ≤ j → j < length costs → getD stops i 0 ≤ charge → known < costAt t (j + 1) charge + getD costs j 0
 
 -- Charges at which no walk stops, for the longest trace.
 pub record Far (far : List ℕ) : Type 0 where

@@ -27,10 +27,10 @@ use Rattle.depth.specs.DepthLaws.{depth-some, depth-least, depth-walk}
 use Rattle.depth.specs.Walk.{started, pushed, walkOf, ceiling, capMeets, depthFrom}
 use Rattle.depth.specs.WalkLaws.{walk-next}
 use Rattle.depth.specs.WalkRanges.{WalkRange, walk-range-take, range-more}
-use Rattle.single.specs.CostLaws.{periodLimit, rate-part, depth-part}
+use Rattle.single.specs.Cost.{chargeOf, costAt}
 use Rattle.single.specs.Single.{Serves, bucketOf}
 use Rattle.first_runs.specs.declared.charges.Charged.{Charged}
-use Rattle.first_runs.specs.Charge.{chargeOf, walkDepth, noCharge, chargeAt, Stepped, StopsAt, Stops, Far}
+use Rattle.first_runs.specs.Charge.{walkDepth, noCharge, chargeAt, Stepped, StopsAt, Stops, Far}
 use Rattle.first_runs.specs.Outline.{unpriced}
 
 -- What carries some periods carries the first of them.
@@ -53,13 +53,13 @@ module _ (t : Tariff) (ds : List ℕ) where
   -- Whatever bucket with a rate from low to high serves a run,
   -- it costs at least the low rate with the depth that the high one needs for the run's front.
   pub charge-least : (low high r i j B : ℕ) → low ≤ r → r ≤ high → i ≤ j → Serves t (take j ds) (bucketOf r B)
-      → chargeAt t low (tariffDepth t high (take i ds)) ≤ chargeOf t r B
+      → chargeAt t low (tariffDepth t high (take i ds)) ≤ chargeOf t (bucketOf r B)
   charge-least low high r i j B l m n s =
       let p = t .factor .p in
       let q = t .factor .q in
       let c : carries p q high B (take i ds) ≡ true = front-carried high B _ i j ds n (carries-faster p q r B (take j ds) high m (s .carried)) in
       let some = depth-some p q (t .«depth_cap» .0) high (take i ds) B (s .depths) c in
-      subst (λ (o : Answer ℕ). chargeAt t low o ≤ chargeOf t r B) (sym (some .1))
+      subst (λ (o : Answer ℕ). chargeAt t low o ≤ chargeOf t (bucketOf r B)) (sym (some .1))
       (add-le-add (mul-le-mul-left (t .«rate_price» .0) l) (mul-le-mul-left (t .«depth_price» .0) (depth-least p q (t .«depth_cap» .0) high (take i ds) (some .1) B c)))
 
 -- ---- The depth of a walk, a period at a time
@@ -111,18 +111,8 @@ charge-found t r (figures B) l = (B, refl)
 charge-found t r (refused n) l = absurd (omega arith)
 
 module _ (t : Tariff) (h : TariffRange t) (r B : ℕ) (l : r ≤ t .«rate_cap» .0) (m : B ≤ t .«depth_cap» .0) where
-  in-range : BucketRange (bucketOf r B)
+  pub in-range : BucketRange (bucketOf r B)
   in-range = record { rates = le-trans l (h .rate-caps); depths = le-trans m (h .depth-caps) }
-
-  -- The two parts of a charge, and their sum.
-  pub rate-le : t .«rate_price» .0 * r ≤ priceLimit * rateLimit
-  rate-le = rate-part {t = t} {b = bucketOf r B} h in-range
-
-  pub depth-le : t .«depth_price» .0 * B ≤ priceLimit * depthLimit
-  depth-le = depth-part {t = t} {b = bucketOf r B} h in-range
-
-  pub charge-le : chargeOf t r B ≤ periodLimit
-  charge-le = add-le-add rate-le depth-le
 
 -- After i periods of a walk at rate `high`.
 pub record Walked (t : Tariff) (high : ℕ) (ds : List ℕ) (i : ℕ) (c : Charged) : Type 0 where
@@ -167,14 +157,14 @@ stops-at-once known rest n l = record { few = omega arith; beyond = λ c m. omeg
 
 -- What is known of the list once it is filled from the end down to the entry `from`,
 -- the last entry filled being `charge`.
-pub record Stopping (fee known : ℕ) (costs : List ℕ) (from charge : ℕ) (stops : List ℕ) : Type 0 where
+pub record Stopping (t : Tariff) (known : ℕ) (costs : List ℕ) (from charge : ℕ) (stops : List ℕ) : Type 0 where
   pub few : charge < noCharge
-  pub all : (j c : ℕ) → from ≤ j → j < length costs → charge ≤ c → known < c * (j + 1) + fee + getD costs j 0
+  pub all : (j c : ℕ) → from ≤ j → j < length costs → charge ≤ c → known < costAt t (j + 1) c + getD costs j 0
   pub below : (i : ℕ) → from ≤ i → i < length costs → getD stops i 0 < noCharge
-  pub beyond : (i j c : ℕ) → from ≤ i → i ≤ j → j < length costs → getD stops i 0 ≤ c → known < c * (j + 1) + fee + getD costs j 0
+  pub beyond : (i j c : ℕ) → from ≤ i → i ≤ j → j < length costs → getD stops i 0 ≤ c → known < costAt t (j + 1) c + getD costs j 0
 
-module _ (fee known : ℕ) (costs stops : List ℕ) where
-  pub stopping-start : (from : ℕ) → length costs ≤ from → Stopping fee known costs from 0 stops
+module _ (t : Tariff) (known : ℕ) (costs stops : List ℕ) where
+  pub stopping-start : (from : ℕ) → length costs ≤ from → Stopping t known costs from 0 stops
   stopping-start from l =
       record {
         few = omega arith;
@@ -183,33 +173,33 @@ module _ (fee known : ℕ) (costs stops : List ℕ) where
         beyond = λ i j c m n k e. absurd (omega arith);
       }
 
-  module _ (from charge stop : ℕ) (room : from < length stops) (k : Stopping fee known costs (suc from) charge stops) (low : stop < noCharge)
-      (here : (c : ℕ) → stop ≤ c → known < c * (from + 1) + fee + getD costs from 0) where
+  module _ (from charge stop : ℕ) (room : from < length stops) (k : Stopping t known costs (suc from) charge stops) (low : stop < noCharge)
+      (here : (c : ℕ) → stop ≤ c → known < costAt t (from + 1) c + getD costs from 0) where
     abbrev next : ℕ
     next = max charge stop
 
     abbrev filled : List ℕ
     filled = set stops from next
 
-    next-all : (j c : ℕ) → from ≤ j → j < length costs → next ≤ c → known < c * (j + 1) + fee + getD costs j 0
+    next-all : (j c : ℕ) → from ≤ j → j < length costs → next ≤ c → known < costAt t (j + 1) c + getD costs j 0
     next-all j c l m n = go (eqb j from) refl
       where
-        go : (b : Bool) → eqb j from ≡ b → known < c * (j + 1) + fee + getD costs j 0
+        go : (b : Bool) → eqb j from ≡ b → known < costAt t (j + 1) c + getD costs j 0
         go true e =
-            subst (λ (i : ℕ). known < c * (i + 1) + fee + getD costs i 0) (sym (eqb-true j from e)) (here c (le-trans (le-max-right charge stop) n))
+            subst (λ (i : ℕ). known < costAt t (i + 1) c + getD costs i 0) (sym (eqb-true j from e)) (here c (le-trans (le-max-right charge stop) n))
         go false e = k .all j c (omega (arith, eqb-false)) m (le-trans (le-max-left charge stop) n)
 
     next-few : next < noCharge
     next-few = omega (arith, k .few)
 
-    pub stopping-more : Stopping fee known costs from next filled
+    pub stopping-more : Stopping t known costs from next filled
     stopping-more =
         record {
           few = next-few;
           all = next-all;
           below = λ i l m. entry (λ (n : ℕ). n < noCharge) i next-few (λ n. k .below i (omega arith) m);
           beyond = λ i j c l m n.
-              entry (λ (x : ℕ). x ≤ c → known < c * (j + 1) + fee + getD costs j 0) i (λ e. next-all j c (omega arith) n e) (λ f. k .beyond i j c (omega arith) m n);
+              entry (λ (x : ℕ). x ≤ c → known < costAt t (j + 1) c + getD costs j 0) i (λ e. next-all j c (omega arith) n e) (λ f. k .beyond i j c (omega arith) m n);
         }
       where
         entry : (P : ℕ → Type 0) (i : ℕ) → P next → ((i ≡ from → ⊥) → P (getD stops i 0)) → P (getD filled i 0)
@@ -219,16 +209,16 @@ module _ (fee known : ℕ) (costs stops : List ℕ) where
             go true e = subst P (sym (ap (λ (n : ℕ). getD filled n 0) (eqb-true i from e) ∙ getD-set-same stops from next 0 room)) new
             go false e = subst P (sym (getD-set-other stops from i next 0 (eqb-false i from e))) (old (eqb-false i from e))
 
-  pub stopping-end : (charge : ℕ) → length costs ≤ length stops → Stopping fee known costs 0 charge stops → Stops fee known costs stops
+  pub stopping-end : (charge : ℕ) → length costs ≤ length stops → Stopping t known costs 0 charge stops → Stops t known costs stops
   stopping-end charge room k = record { room = room; below = λ i l. k .below i (omega arith) l; beyond = λ i j c l m n. k .beyond i j c (omega arith) l m n }
 
 -- A smaller cost known is still passed.
-pub stops-lower : {fee known less : ℕ} {costs stops : List ℕ} → less ≤ known → Stops fee known costs stops → Stops fee less costs stops
+pub stops-lower : {t : Tariff} {known less : ℕ} {costs stops : List ℕ} → less ≤ known → Stops t known costs stops → Stops t less costs stops
 stops-lower l k = record { room = k .room; below = k .below; beyond = λ i j c m n o. lt-of-le-of-lt l (k .beyond i j c m n o) }
 
 -- Charges far out of reach stop no walk.
-pub stops-far : (fee : ℕ) (costs far : List ℕ) → length costs ≤ traceLimit → Far far → Stops fee unpriced costs far
-stops-far fee costs far few k =
+pub stops-far : (t : Tariff) (costs far : List ℕ) → length costs ≤ traceLimit → Far far → Stops t unpriced costs far
+stops-far t costs far few k =
     record {
       room = le-trans few (k .room);
       below = λ i l. subst (λ (n : ℕ). n < noCharge) (sym (k .each i (omega arith))) (omega arith);

@@ -21,14 +21,14 @@ use Rattle.terms.specs.RangeRules.{TariffRange}
 use Rattle.bucket.specs.Step.{startOf}
 use Rattle.depth.specs.Depth.{tariffDepth}
 use Rattle.depth.specs.DepthLaws.{depth-within, depth-carries, depth-least}
-use Rattle.single.specs.Cost.{costOf}
+use Rattle.single.specs.Cost.{chargeOf, costAt, costOf}
 use Rattle.single.specs.CostLaws.{cost-mono}
 use Rattle.single.specs.RateLaws.{greatest-carries}
 use Rattle.single.specs.Rates.{greatest, weighed}
 use Rattle.single.specs.Single.{Serves, bucketOf}
 use Rattle.first_runs.specs.declared.outlines.Choice.{Choice}
 use Rattle.first_runs.specs.declared.outlines.Outline.{Outline}
-use Rattle.first_runs.specs.Charge.{chargeOf, chargeAt, CostRange, Stops, Far}
+use Rattle.first_runs.specs.Charge.{chargeAt, CostRange, Stops, Far}
 use Rattle.first_runs.specs.ChargeLaws.{front-carried, charge-least, stops-lower, stops-far}
 use Rattle.first_runs.specs.Outline.{unpriced, noOutline, begun, ahead, betterChoice}
 use Rattle.first_runs.specs.OutlineLaws.{not-ahead-trans, ahead-asym, ahead-self, not-ahead-cost, dearer-not-ahead, alike-not-ahead, more-not-ahead}
@@ -64,20 +64,20 @@ module _ (t : Tariff) (ds costs counts : List ℕ) where
 
   -- ---- One run
 
-  passed-dear : (o : Outline) (r i charge : ℕ) → ((B : ℕ) → Serves t (take (i + 1) ds) (bucketOf r B) → charge ≤ chargeOf t r B)
-      → o .cost < charge * (i + 1) + t .fee + getD costs i 0 → Passed o r i
+  passed-dear : (o : Outline) (r i charge : ℕ) → ((B : ℕ) → Serves t (take (i + 1) ds) (bucketOf r B) → charge ≤ chargeOf t (bucketOf r B))
+      → o .cost < costAt t (i + 1) charge + getD costs i 0 → Passed o r i
   unfolding costOf
   passed-dear o r i charge least l B s = dearer-not-ahead o (startsWith i r B) (omega (arith, l, mul-le-mul-right (i + 1) (least B s)))
 
   module _ (low high r charge i : ℕ) (l : low ≤ r) (m : r ≤ high) (e : charge ≡ chargeAt t low (tariffDepth t high (take (i + 1) ds))) where
-    least-from : (j B : ℕ) → i ≤ j → Serves t (take (j + 1) ds) (bucketOf r B) → charge ≤ chargeOf t r B
+    least-from : (j B : ℕ) → i ≤ j → Serves t (take (j + 1) ds) (bucketOf r B) → charge ≤ chargeOf t (bucketOf r B)
     least-from j B n s = le-trans (le-of-eq e) (charge-least t ds low high r (i + 1) (j + 1) B l m (omega arith) s)
 
     -- A run that costs more even at the walk's charge, and all runs from where the walk can stop.
-    pub end-passed : (o : Outline) → o .cost < charge * (i + 1) + t .fee + getD costs i 0 → Passed o r i
+    pub end-passed : (o : Outline) → o .cost < costAt t (i + 1) charge + getD costs i 0 → Passed o r i
     end-passed o k = passed-dear o r i charge (λ B s. least-from i B (le-refl i) s) k
 
-    pub stop-passed : (o : Outline) (stops : List ℕ) → Stops (t .fee) (o .cost) costs stops → getD stops i 0 ≤ charge → (j : ℕ) → i ≤ j → j < length costs → Passed o r j
+    pub stop-passed : (o : Outline) (stops : List ℕ) → Stops t (o .cost) costs stops → getD stops i 0 ≤ charge → (j : ℕ) → i ≤ j → j < length costs → Passed o r j
     stop-passed o stops k n j x y = passed-dear o r j charge (λ B s. least-from j B x s) (k .beyond i j charge x y n)
 
   -- What is kept once the run of i + 1 periods is weighed at rate r.
@@ -148,7 +148,7 @@ module _ (t : Tariff) (ds costs counts : List ℕ) where
   -- What the search rests on, and what is found so far.
   pub record Searching (stops : List ℕ) (c : Choice) : Type 0 where
     pub rests : Rests
-    pub stopped : Stops (t .fee) (c .outline .cost) costs stops
+    pub stopped : Stops t (c .outline .cost) costs stops
     pub kind : Kind (c .outline)
     pub rate : c .rate .0 ≤ t .«rate_cap» .0
 
@@ -174,7 +174,7 @@ module _ (t : Tariff) (ds costs counts : List ℕ) where
 
   -- The search begins with no cutting, and at no charge does it stop.
   pub none-searching : {far : List ℕ} → Far far → Rests → (begin : Rate) → begin .0 ≤ t .«rate_cap» .0 → Searching far (record { outline = noOutline; rate = begin })
-  none-searching {far} f k begin slow = record { rests = k; stopped = stops-far (t .fee) costs far (omega (arith, k .costs-all, k .few)) f; kind = inl refl; rate = slow }
+  none-searching {far} f k begin slow = record { rests = k; stopped = stops-far t costs far (omega (arith, k .costs-all, k .few)) f; kind = inl refl; rate = slow }
 
   pub rests-costs : Rests → CostRange costs
   rests-costs k = record { few = omega (arith, k .costs-all, k .few); each = λ i l. k .cost i (omega (arith, k .costs-all)) }

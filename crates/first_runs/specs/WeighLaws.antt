@@ -15,13 +15,13 @@ use Rattle.terms.specs.declared.Tariff.{Tariff}
 use Rattle.terms.specs.Answer.{figures}
 use Rattle.depth.specs.Depth.{tariffDepth}
 use Rattle.depth.specs.DepthLaws.{depth-within}
-use Rattle.single.specs.Cost.{costOf}
-use Rattle.single.specs.CostLaws.{periodLimit}
+use Rattle.single.specs.Cost.{costAt, costOf}
+use Rattle.single.specs.CostLaws.{periodLimit, charge-le}
 use Rattle.first_runs.specs.declared.charges.Charged.{Charged}
 use Rattle.first_runs.specs.declared.outlines.Choice.{Choice}
 use Rattle.first_runs.specs.declared.outlines.Outline.{Outline}
 use Rattle.first_runs.specs.Charge.{noCharge, chargeAt, Stepped}
-use Rattle.first_runs.specs.ChargeLaws.{Walked, walked-next, walked-charge, charge-found, charge-le, stops-lower}
+use Rattle.first_runs.specs.ChargeLaws.{Walked, walked-next, walked-charge, charge-found, in-range, stops-lower}
 use Rattle.first_runs.specs.Outline.{ahead, betterChoice}
 use Rattle.first_runs.specs.OutlineLaws.{not-ahead-trans, ahead-self, not-ahead-cost}
 use Rattle.first_runs.specs.SearchLaws.{Passed, Kind, RunWeighed, Searching, Weighed, startsWith, passed-on, end-passed, stop-passed, run-kept}
@@ -57,7 +57,7 @@ module _ (t : Tariff) (ds costs counts stops : List ℕ) (found : Choice) (k : S
     pub charge-limit : low ≤ t .«rate_cap» .0 → n .charge < getD stops i 0 → n .charge ≤ periodLimit
     charge-limit slow m =
         let f = depth-found m in
-        le-trans (le-of-eq (charge-is ∙ ap (chargeAt t low) (f .1))) (charge-le t (k .rests .tariffs) low (f .0) slow (depth-within _ _ _ _ _ (f .1)))
+        le-trans (le-of-eq (charge-is ∙ ap (chargeAt t low) (f .1))) (charge-le (k .rests .tariffs) (in-range t (k .rests .tariffs) low (f .0) slow (depth-within _ _ _ _ _ (f .1))))
 
     pub walk-on : n .charge < getD stops i 0 → Walked t high ds (i + 1) n
     walk-on m = walked-next t high ds i c w l low n s (goes-on m)
@@ -69,7 +69,7 @@ module _ (t : Tariff) (ds costs counts stops : List ℕ) (found : Choice) (k : S
         stop-passed t ds costs counts low high r (n .charge) i a b charge-is o stops (stops-lower m (k .stopped)) x j y (omega (arith, k .rests .costs-all))
 
     -- Nor is a run that costs more at the walk's charge.
-    pub dear-passed : (o : Outline) → o .cost < n .charge * (i + 1) + t .fee + getD costs i 0 → (r : ℕ) → low ≤ r → r ≤ high → Passed t ds costs counts o r i
+    pub dear-passed : (o : Outline) → o .cost < costAt t (i + 1) (n .charge) + getD costs i 0 → (r : ℕ) → low ≤ r → r ≤ high → Passed t ds costs counts o r i
     dear-passed o m r a b = end-passed t ds costs counts low high r (n .charge) i a b charge-is o m
 
   -- ---- Looking at some rates together
@@ -79,7 +79,7 @@ module _ (t : Tariff) (ds costs counts stops : List ℕ) (found : Choice) (k : S
     passing-start c w = record { walk = w; passed = λ r j a b l. absurd (omega arith) }
 
     module _ (i : ℕ) (c n : Charged) (p : Passing t ds costs counts found low high c i) (l : i < length ds) (s : Stepped t high low (getD ds i 0) c n) where
-      pub passing-next : n .charge < getD stops i 0 → found .outline .cost < n .charge * (i + 1) + t .fee + getD costs i 0 → Passing t ds costs counts found low high n (i + 1)
+      pub passing-next : n .charge < getD stops i 0 → found .outline .cost < costAt t (i + 1) (n .charge) + getD costs i 0 → Passing t ds costs counts found low high n (i + 1)
       passing-next m x =
           record {
             walk = walk-on high low i c n (p .walk) l s m;
@@ -126,7 +126,7 @@ module _ (t : Tariff) (ds costs counts stops : List ℕ) (found : Choice) (k : S
                 stopped-passed r r i c n (g .walk) l s (best .outline) (not-ahead-cost _ _ (g .kept)) m r j (le-refl r) (le-refl r) (leb-true _ _ e) z
             go j z false e = g .passed j (leb-false _ _ e)
 
-        module _ (slow : r ≤ t .«rate_cap» .0) (m : n .charge < getD stops i 0) (cost : ℕ) (e : cost ≡ n .charge * (i + 1) + t .fee + getD costs i 0) where
+        module _ (slow : r ≤ t .«rate_cap» .0) (m : n .charge < getD stops i 0) (cost : ℕ) (e : cost ≡ costAt t (i + 1) (n .charge) + getD costs i 0) where
           abbrev this : Choice
           this = record { outline = record { cost = cost; buckets = getD counts i 0 + 1; first = i + 1 }; rate = record { 0 = r } }
 
@@ -137,7 +137,7 @@ module _ (t : Tariff) (ds costs counts stops : List ℕ) (found : Choice) (k : S
           unfolding costOf
           this-is =
               ap (λ (x : ℕ). record { cost = x; buckets = getD counts i 0 + 1; first = i + 1 })
-              (e ∙ ap (λ (x : ℕ). x * (i + 1) + t .fee + getD costs i 0) (charge-is r r i c n (g .walk) l s ∙ ap (chargeAt t r) (depth .1)))
+              (e ∙ ap (λ (x : ℕ). costAt t (i + 1) x + getD costs i 0) (charge-is r r i c n (g .walk) l s ∙ ap (chargeAt t r) (depth .1)))
 
           kept-this : RunWeighed t ds costs counts r i best (betterChoice best this)
           kept-this = run-kept t ds costs counts r i (depth .0) l slow (depth .1) best this (g .kind) (g .rate) this-is refl

@@ -1,7 +1,10 @@
-// What a bucket costs in a period, without the fee, and from which such charge on a walk through a
-// trace can stop. Public only for this crate's search, which shows what each function requires.
+// The charge of a walk through a trace, and from which charge on it can stop. Public only for this
+// crate's search, which shows what each function requires.
 use depth::DepthAnswer;
 use depth::walk::Walk;
+use single::costs::billed_periods;
+use single::costs::charge_of;
+use terms::Bucket;
 use terms::Depth;
 use terms::Rate;
 use terms::Refusal;
@@ -11,7 +14,7 @@ use terms::numbers::greater;
 ghost use Prim.Native.Nat.{_-_, _≤_, max};
 ghost use mathlib.Core.Path.{_≡_};
 ghost use Rattle.terms.specs.Answer.{figures};
-ghost use Rattle.terms.specs.Limits.{feeLimit, traceLimit};
+ghost use Rattle.terms.specs.Limits.{traceLimit};
 ghost use Rattle.terms.specs.RangeRules.{TariffRange};
 ghost use Rattle.depth.specs.Depth.{depthSays};
 ghost use Rattle.depth.specs.Walk.{started};
@@ -61,8 +64,7 @@ impl Charged {
                 charge: NO_CHARGE,
             };
         };
-        let rate = tariff.rate_price.0 as u64 * low.0 as u64;
-        let charge = rate + tariff.depth_price.0 as u64 * depth.0 as u64;
+        let charge = charge_of(tariff, Bucket { rate: low, depth });
         Charged {
             walk,
             depth,
@@ -91,18 +93,19 @@ fn depth_after(old: Walk, depth: Depth, new: Walk, tariff: Tariff) -> DepthAnswe
 
 // By the length of a first run, less 1: the least charge at which no run of that length or longer,
 // with the best cutting of what is left, costs as little as what is known.
-pub fn stops_of(costs: &[u64], fee: u32, known: u64) -> [u64; TRACE_LIMIT]
+pub fn stops_of(costs: &[u64], tariff: Tariff, known: u64) -> [u64; TRACE_LIMIT]
     requires { ⌜ CostRange (now costs) ⌝ }
-    requires { ⌜ fee ≤ feeLimit ⌝ }
+    requires { ⌜ TariffRange tariff ⌝ }
     requires { ⌜ known ≤ unpriced ⌝ }
-    ensures { λ r. ⌜ Stops fee known (now (costs .entry)) r ⌝ }
+    ensures { λ r. ⌜ Stops tariff known (now (costs .entry)) r ⌝ }
 {
     let mut stops = [0u64; TRACE_LIMIT];
     let mut charge: u64 = 0;
     let mut periods = costs.len();
     while 0 < periods {
         let i = periods - 1;
-        let stop = stop_at(known, fee as u64 + costs[i], periods as u64);
+        let billed = billed_periods(tariff, periods as u64);
+        let stop = stop_at(known, tariff.fee as u64 + costs[i], billed);
         charge = greater_charge(charge, stop);
         stops[i] = charge;
         periods = i;

@@ -4,11 +4,14 @@ use crate::charges::Charged;
 use crate::outlines::Choice;
 use crate::outlines::Outline;
 use crate::outlines::better_of;
+use single::costs::cost_at;
 use terms::Rate;
 use terms::Tariff;
 ghost use Prim.Native.Nat.{_+_, _*_, _≤_, _<_};
 ghost use mathlib.Core.Path.{_≡_};
-ghost use Rattle.terms.specs.Limits.{feeLimit, traceLimit};
+ghost use Rattle.terms.specs.Limits.{traceLimit};
+ghost use Rattle.terms.specs.RangeRules.{TariffRange};
+ghost use Rattle.single.specs.Cost.{costAt};
 ghost use Rattle.single.specs.CostLaws.{periodLimit};
 ghost use Rattle.first_runs.specs.Outline.{unpriced};
 ghost use Rattle.first_runs.specs.SearchLaws.{PassedOver, Searching, Weighed};
@@ -73,7 +76,7 @@ pub fn weigh_rate(
         if stops[i] <= walk.charge {
             return best;
         }
-        let cost = cost_with(walk.charge, i, tariff.fee, costs[i]);
+        let cost = cost_with(tariff, i, walk.charge, costs[i]);
         let buckets = counts[i] + 1;
         i += 1;
         let outline = Outline {
@@ -110,7 +113,7 @@ fn may_better(
         if stops[i] <= walk.charge {
             return false;
         }
-        if cost_with(walk.charge, i, tariff.fee, costs[i]) <= found.outline.cost {
+        if cost_with(tariff, i, walk.charge, costs[i]) <= found.outline.cost {
             return true;
         }
         i += 1;
@@ -119,12 +122,12 @@ fn may_better(
 }
 
 // What a run of i + 1 periods costs with the rest after it.
-fn cost_with(charge: u64, i: usize, fee: u32, rest: u64) -> u64
-    requires { ⌜ charge ≤ periodLimit ⌝ }
+fn cost_with(tariff: Tariff, i: usize, charge: u64, rest: u64) -> u64
+    requires { ⌜ TariffRange tariff ⌝ }
     requires { ⌜ i < traceLimit ⌝ }
-    requires { ⌜ fee ≤ feeLimit ⌝ }
+    requires { ⌜ charge ≤ periodLimit ⌝ }
     requires { ⌜ rest ≤ unpriced ⌝ }
-    ensures { λ r. ⌜ r ≡ charge * (i + 1) + fee + rest ⌝ }
+    ensures { λ r. ⌜ r ≡ costAt tariff (i + 1) charge + rest ⌝ }
 {
-    charge * (i as u64 + 1) + fee as u64 + rest
+    cost_at(tariff, i as u64 + 1, charge) + rest
 }

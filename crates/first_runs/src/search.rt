@@ -45,7 +45,7 @@ pub fn best_first(
         rate: begin,
     };
     let found = weigh_rate(trace, tariff, begin, costs, counts, far, none);
-    let stops = stops_of(costs, tariff.fee, found.outline.cost);
+    let stops = stops_of(costs, tariff, found.outline.cost);
     weigh_all(trace, tariff, costs, counts, &stops, found)
 }
 

@@ -9,7 +9,7 @@ use Rattle.terms.specs.declared.Tariff.{Tariff}
 use Rattle.terms.specs.Limits.{rateLimit, depthLimit, priceLimit, feeLimit}
 use Rattle.terms.specs.RangeRules.{BucketRange, TariffRange}
 use Rattle.single.specs.declared.costs.Priced.{Priced}
-use Rattle.single.specs.Cost.{costOf, pricedAt}
+use Rattle.single.specs.Cost.{chargeOf, costOf, pricedAt}
 
 -- A bucket with its cost, from its cost being its own.
 pub priced-is : (t : Tariff) (n : ℕ) (x : Priced) → x .cost ≡ costOf t n (x .bucket) → x ≡ pricedAt t n (x .bucket)
@@ -27,7 +27,7 @@ unfolding costOf
 cost-floor t n b =
     add-le-add (mul-le-mul-right n (le-add-right (t .«rate_price» .0 * b .rate .0) (t .«depth_price» .0 * b .depth .0))) (le-refl (t .fee))
 
--- The most that a bucket costs in a period, without the fee.
+-- The greatest charge.
 abbrev pub periodLimit : ℕ
 periodLimit = priceLimit * rateLimit + priceLimit * depthLimit
 
@@ -38,9 +38,9 @@ module _ {t : Tariff} {b : Bucket} (h : TariffRange t) (k : BucketRange b) where
   pub depth-part : t .«depth_price» .0 * b .depth .0 ≤ priceLimit * depthLimit
   depth-part = mul-le-mul (h .depth-prices) (k .depths)
 
-  pub periods-part : (n : ℕ) → (t .«rate_price» .0 * b .rate .0 + t .«depth_price» .0 * b .depth .0) * n ≤ periodLimit * n
-  periods-part n = mul-le-mul-right n (add-le-add rate-part depth-part)
+  pub charge-le : chargeOf t b ≤ periodLimit
+  charge-le = add-le-add rate-part depth-part
 
   pub cost-le : (n : ℕ) → costOf t n b ≤ periodLimit * n + feeLimit
   unfolding costOf
-  cost-le n = add-le-add (periods-part n) (h .fees)
+  cost-le n = add-le-add (mul-le-mul-right n charge-le) (h .fees)

@@ -76,8 +76,14 @@ cost-with-requires c κs =
     let i = d .before .before in
     let p = i .before .before .before .before .before .before .before .pre in
     let k = p .1 in (
-      charge-limit _ _ _ _ _ _ k _ _ _ _ _ (i .before .loop .inv .walk) (i .loop-test .taken) (d .push .ensures) (p .0) (e .if1 .left),
-      (period i, (k .rests .tariffs .fees, k .rests .cost _ (i .loop-test .taken))),
+      k .rests .tariffs,
+      (
+        period i,
+        (
+          charge-limit _ _ _ _ _ _ k _ _ _ _ _ (i .before .loop .inv .walk) (i .loop-test .taken) (d .push .ensures) (p .0) (e .if1 .left),
+          k .rests .cost _ (i .loop-test .taken),
+        ),
+      ),
     )
 
 mul-buckets : tie.Need-mul-buckets Inv-loop μ-loop

@@ -10,7 +10,7 @@ weigh-rate-requires c κs = let p = c .before .before .before .before .pre in (p
 stops-of-requires : tie.Need-stops-of-requires
 stops-of-requires c κs =
     let k = c .before .before .before .before .before .pre .1 .1 in
-    (rests-costs _ _ _ _ k, (k .tariffs .fees, kind-cost _ _ _ _ _ (c .weigh-rate .ensures .kind)))
+    (rests-costs _ _ _ _ k, (k .tariffs, kind-cost _ _ _ _ _ (c .weigh-rate .ensures .kind)))
 
 slice-aggregate-weigh-all : tie.Need-slice-aggregate-weigh-all
 slice-aggregate-weigh-all c = search needs

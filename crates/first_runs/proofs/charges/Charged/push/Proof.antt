@@ -1,7 +1,7 @@
 -- The depth one period on, by cases: none, and the charge stands for none; or one inside the cap.
 use Prim.Native.Nat.{_≤_, _-_}
 use Rattle.first_runs.specs.Charge.{chargeAt, walkDepth}
-use Rattle.first_runs.specs.ChargeLaws.{pushed-stretch, rate-le, depth-le}
+use Rattle.first_runs.specs.ChargeLaws.{in-range, pushed-stretch}
 use Rattle.depth.specs.Depth.{depthSays}
 use Rattle.depth.specs.DepthLaws.{walk-within}
 use Rattle.depth.specs.WalkRanges.{WalkRange, range-pushed}
@@ -44,12 +44,6 @@ returns c =
       found = λ m. absurd (omega arith);
     }
 
-cast-rate : tie.Need-cast-rate
-cast-rate c = search needs
-
-cast-rate-2 : tie.Need-cast-rate-2
-cast-rate-2 c = search needs
-
 -- what is found, and that it is inside the cap
 found : (c : tie.After-depth) → let d = c .before .before in
     figures (c .depth .given .0 .0 .0) ≡ walkDepth (d .before .before .before .before .args .tariff) (d .before .push .result)
@@ -58,36 +52,18 @@ found c = sym (ap depthSays (c .depth .given .1)) ∙ c .before .before .depth-a
 inside : (c : tie.After-depth) → c .depth .given .0 .0 .0 ≤ c .before .before .before .before .before .before .args .tariff .«depth_cap» .0
 inside c = walk-within _ _ _ _ (c .before .before .before .before .before .before .pre .0 .factor .some) (sym (found c))
 
-mul-rate : tie.Need-mul-rate
-mul-rate c =
-    let d = c .before .before .before in
+charge-of-requires : tie.Need-charge-of-requires
+charge-of-requires c κs =
+    let d = c .before in
     let s = d .before .before .before .before .before .before in
-    omega (arith, rate-le (s .args .tariff) (s .pre .0) (s .args .low .0) _ (s .pre .1 .1 .0) (inside d))
-
-cast-charge : tie.Need-cast-charge
-cast-charge c = search needs
-
-cast-charge-2 : tie.Need-cast-charge-2
-cast-charge-2 c = search needs
-
-mul-charge : tie.Need-mul-charge
-mul-charge c =
-    let d = c .before .before .before .before .before in
-    let s = d .before .before .before .before .before .before in
-    omega (arith, depth-le (s .args .tariff) (s .pre .0) (s .args .low .0) _ (s .pre .1 .1 .0) (inside d))
-
-add-charge : tie.Need-add-charge
-add-charge c =
-    let d = c .before .before .before .before .before in
-    let s = d .before .before .before .before .before .before in
-    omega (arith, rate-le (s .args .tariff) (s .pre .0) (s .args .low .0) _ (s .pre .1 .1 .0) (inside d), depth-le (s .args .tariff) (s .pre .0) (s .args .low .0) _ (s .pre .1 .1 .0) (inside d))
+    (s .pre .0, in-range (s .args .tariff) (s .pre .0) (s .args .low .0) _ (s .pre .1 .1 .0) (inside d))
 
 returns-2 : tie.Need-returns-2
 returns-2 c =
-    let d = c .before .before .before .before .before in
+    let d = c .before .before in
     record {
       walked = d .before .before .before .push .ensures;
-      charged = ap (chargeAt _ _) (found d);
+      charged = c .charge-of .ensures ∙ ap (chargeAt _ _) (found d);
       found = λ m. sym (found d);
     }
 
@@ -100,11 +76,5 @@ push-spec =
     enum-known-depth
     enum-told
     returns
-    cast-rate
-    cast-rate-2
-    mul-rate
-    cast-charge
-    cast-charge-2
-    mul-charge
-    add-charge
+    charge-of-requires
     returns-2)
