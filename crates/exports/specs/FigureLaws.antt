@@ -23,7 +23,7 @@ use Rattle.bucket.specs.Laws.{demands-tail, start-le, sub-is}
 use Rattle.bucket.specs.declared.trials.TrialFigures.{TrialFigures}
 use Rattle.bucket.specs.Step.{held, startOf}
 use Rattle.bucket.specs.Trace.{Demands, gap, gaps, leastOf, minZ, overAll, spareFrom, sumOf}
-use Rattle.bucket.specs.Trial.{trialFigures, trialOf}
+use Rattle.bucket.specs.Trial.{trialFigures}
 use Rattle.meter.specs.declared.meters.Meter.{Meter}
 use Rattle.meter.specs.Meter.{freshMeter, meterOk, offerOf, offersOf, openOf, recordAfter}
 use Rattle.depth.specs.DepthLaws.{depth-found}

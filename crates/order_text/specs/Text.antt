@@ -17,8 +17,8 @@ use Rattle.typed_figures.specs.Figures.{demandsOf, factorStands, figuresLimit, 
 use Rattle.order_text.specs.declared.faults.Cause.{Cause}
 use Rattle.order_text.specs.declared.faults.Cause.the-variants.{Byte, Above, Factor, Many, Few}
 use Rattle.order_text.specs.declared.faults.Fault.{Fault}
-use Rattle.order_text.specs.declared.orders.TextAnswer.{TextAnswer}
-use Rattle.order_text.specs.declared.orders.TextAnswer.the-variants.{Written, Faulty, Refused}
+use Rattle.order_text.specs.declared.typed_orders.TextAnswer.{TextAnswer}
+use Rattle.order_text.specs.declared.typed_orders.TextAnswer.the-variants.{Written, Faulty, Refused}
 
 -- What a text gives, or its first fault.
 pub data Reading (A : Type 0) : Type 0 where

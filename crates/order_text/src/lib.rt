@@ -5,13 +5,13 @@
 // place, its figure and its cause, is refusal 3 or 5 by it, and changes nothing that is lent.
 mod bytes;
 mod faults;
-mod orders;
 mod scan;
+mod typed_orders;
 mod words;
 
 pub use faults::Cause;
 pub use faults::Fault;
 pub use faults::refusal_of;
-pub use orders::TextAnswer;
-pub use orders::order_of_text;
+pub use typed_orders::TextAnswer;
+pub use typed_orders::order_of_text;
 pub use words::word_around;

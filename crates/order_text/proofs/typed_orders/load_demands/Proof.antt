@@ -4,8 +4,8 @@ use native.Mathlib.Omega.{arith}
 use borrow.Author.Needs.{needs}
 use lib.ListN.{length}
 use Rattle.encoding.specs.StoreLaws.{Copying, none-stored, copied-inside, copied-next, copied-all}
-use Rattle.order_text.proofs.orders.load_demands.Statement.{statement}
-use Rattle.order_text.proofs.orders.load_demands.Tie as tie
+use Rattle.order_text.proofs.typed_orders.load_demands.Statement.{statement}
+use Rattle.order_text.proofs.typed_orders.load_demands.Tie as tie
 
 abbrev Inv-loop : tie.InvT-loop
 Inv-loop figures demands₀ i₀ demands i = Copying figures demands₀ demands i

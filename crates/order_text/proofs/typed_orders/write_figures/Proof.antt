@@ -10,8 +10,8 @@ use Rattle.encoding.specs.NumberLaws.{Fit}
 use Rattle.typed_figures.specs.Figures.{tariffFigures, demandsOf}
 use Rattle.order_text.specs.FigureLaws.{demands-fit}
 use Rattle.order_text.specs.TextLaws.{copied-front, order-written}
-use Rattle.order_text.proofs.orders.write_figures.Statement.{statement}
-use Rattle.order_text.proofs.orders.write_figures.Tie as tie
+use Rattle.order_text.proofs.typed_orders.write_figures.Statement.{statement}
+use Rattle.order_text.proofs.typed_orders.write_figures.Tie as tie
 
 sub-periods : tie.Need-sub-periods
 sub-periods c = search needs

@@ -10,8 +10,8 @@ use Rattle.order_text.specs.Text.{onRead, figuresOf}
 use Rattle.order_text.specs.Cursors.{StepFits, stepSays}
 use Rattle.order_text.specs.FigureLaws.{text-figures}
 use Rattle.order_text.specs.TextLaws.{gives-fault, gives-file}
-use Rattle.order_text.proofs.orders.order_of_text.Statement.{statement}
-use Rattle.order_text.proofs.orders.order_of_text.Tie as tie
+use Rattle.order_text.proofs.typed_orders.order_of_text.Statement.{statement}
+use Rattle.order_text.proofs.typed_orders.order_of_text.Tie as tie
 
 -- what the text gives
 reads : (c : tie.After-read-figures) (r : Step) → c .read-figures .result ≡ r

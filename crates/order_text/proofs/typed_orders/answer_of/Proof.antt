@@ -4,8 +4,8 @@ use borrow.Author.Needs.{needs}
 use Rattle.encoding.specs.declared.fills.FillAnswer.{FillAnswer}
 use Rattle.encoding.specs.Fill.{fillSays}
 use Rattle.order_text.specs.Text.{read}
-use Rattle.order_text.proofs.orders.answer_of.Statement.{statement}
-use Rattle.order_text.proofs.orders.answer_of.Tie as tie
+use Rattle.order_text.proofs.typed_orders.answer_of.Statement.{statement}
+use Rattle.order_text.proofs.typed_orders.answer_of.Tie as tie
 
 enum-known-fill : tie.Need-enum-known-fill
 enum-known-fill c = search needs
