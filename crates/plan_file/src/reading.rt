@@ -7,7 +7,7 @@ use crate::layout::COST_OFFSET;
 use crate::layout::PLAN_KIND;
 use crate::layout::RECORD_BYTES;
 use crate::layout::counts_in_range;
-use crate::records::load_records;
+use crate::records::load_array;
 use crate::records::records_in_file;
 use encoding::headers::placed;
 use encoding::numbers::number_at;
@@ -38,7 +38,7 @@ pub fn read_records(bytes: &[u8], room: usize) -> PlanRecords
             records,
         };
     }
-    let records = load_records(bytes, buckets);
+    let records = load_array(bytes, buckets);
     PlanRecords {
         answer: PlanAnswer::Read(plan),
         records,

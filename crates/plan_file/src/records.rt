@@ -108,7 +108,7 @@ pub fn records_in_range(periods: u32, buckets: usize, records: [BucketRecord; TR
 }
 
 // The records of a file, from the front of an array on.
-pub fn load_records(bytes: &[u8], buckets: usize) -> [BucketRecord; TRACE_LIMIT]
+pub fn load_array(bytes: &[u8], buckets: usize) -> [BucketRecord; TRACE_LIMIT]
     requires { ⌜ planLength buckets ≤ length (now bytes) ⌝ }
     requires { ⌜ buckets ≤ traceLimit ⌝ }
     ensures { λ r. ⌜ r ≡ held (figures (recordsIn buckets (now (bytes .entry)))) ⌝ }

@@ -51,14 +51,14 @@ returns-2 c =
     let r = read-full (p .before .before .args .bytes .now) (p .before .before .args .room) _ (plan (t .before)) _ (lt-leb _ _ (t .if1 .taken)) (c .blank-records2 .ensures) in
     (r .0, (r .1, very p))
 
-load-records-requires : tie.Need-load-records-requires
-load-records-requires c κs = (omega (arith, plan (c .before) .bytes), plan-few _ _ (read (c .before)))
+load-array-requires : tie.Need-load-array-requires
+load-array-requires c κs = (omega (arith, plan (c .before) .bytes), plan-few _ _ (read (c .before)))
 
 returns-3 : tie.Need-returns-3
 returns-3 c =
     let e = c .before in
     let p = weighed (e .before) in
-    let r = read-loaded (p .before .before .args .bytes .now) (p .before .before .args .room) _ (plan (e .before)) _ (le-leb _ _ (e .if1 .left)) (read (e .before)) (c .load-records .ensures) in
+    let r = read-loaded (p .before .before .args .bytes .now) (p .before .before .args .room) _ (plan (e .before)) _ (le-leb _ _ (e .if1 .left)) (read (e .before)) (c .load-array .ensures) in
     (r .0, (r .1, very p))
 
 pub read-records-spec : {M : Type 1} → statement M
@@ -73,5 +73,5 @@ read-records-spec =
     (λ c. search needs)
     (λ c κs. search needs)
     returns-2
-    load-records-requires
+    load-array-requires
     returns-3)

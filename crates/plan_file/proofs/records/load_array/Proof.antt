@@ -15,8 +15,8 @@ use Rattle.encoding.specs.StoreLaws.{Storing, none-stored, one-stored, all-stor
 use Rattle.record_list.specs.Held.{blank, held}
 use Rattle.record_list.specs.HeldLaws.{length-blank}
 use Rattle.plan_file.specs.Plan.{bucketsOffset, recordAt, recordsIn}
-use Rattle.plan_file.proofs.records.load_records.Statement.{statement}
-use Rattle.plan_file.proofs.records.load_records.Tie as tie
+use Rattle.plan_file.proofs.records.load_array.Statement.{statement}
+use Rattle.plan_file.proofs.records.load_array.Tie as tie
 
 module _ (bs : List ℕ) (k : ℕ) where
   record Loading (records : Cutting) (at i : ℕ) : Type 0 where
@@ -70,8 +70,8 @@ loop-again c = let i = c .before in next _ _ (i .before .loop .inv) (i .loop-tes
 returns : tie.Need-returns Inv-loop μ-loop
 returns c = end _ _ (c .before .loop .inv) (c .loop-test .left) (c .before .before .before .before .pre .1)
 
-pub load-records-spec : {M : Type 1} → statement M
-load-records-spec =
+pub load-array-spec : {M : Type 1} → statement M
+load-array-spec =
     tie.close
     (tie.spec
     Inv-loop
