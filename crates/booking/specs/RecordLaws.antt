@@ -1,5 +1,5 @@
--- Booking with the records by value: once as many of them as the answer has are stored in the lent lists, the claim holds
--- of these.
+-- Booking with the records by value: once as many of them as the answer has are stored in the lent lists, the claim
+-- holds of these.
 -- Assumes nothing.
 use Prim.Native.Nat.{ℕ, _≤_}
 use native.Mathlib.Omega.{arith}

@@ -1,5 +1,5 @@
--- An array that holds an answer's records: how long it is, what stands at its front, and that its front stored in a lent
--- list fills that list as the answer does.
+-- An array that holds an answer's records: how long it is, what stands at its front, and that its front stored in a
+-- lent list fills that list as the answer does.
 -- Assumes nothing.
 use Prim.Native.Nat.{ℕ, _≤_}
 use native.Mathlib.Omega.{arith}

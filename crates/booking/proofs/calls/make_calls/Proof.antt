@@ -13,15 +13,6 @@ found-at c = c .before .before .before
 abbrev plan-at : tie.After-answer → tie.After-plan-order
 plan-at c = c .before .before .before .before
 
-plan-order-requires : tie.Need-plan-order-requires
-plan-order-requires c κs = search needs
-
-enum-known-answer : tie.Need-enum-known-answer
-enum-known-answer c = search needs
-
-enum-known-answer-2 : tie.Need-enum-known-answer-2
-enum-known-answer-2 c = search needs
-
 returns : tie.Need-returns
 returns c =
     let p = c .before .before .before .before .before in
@@ -45,9 +36,6 @@ record-plan-requires c κs =
     let a = found-at (c .before .before) in
     sym (trace-count _ _ _ _ (plan-at a .plan-order .ensures) _ (ap plannedSays (a .answer .given .1)))
 
-same-length : tie.Need-same-length
-same-length c = search needs
-
 returns-2 : tie.Need-returns-2
 returns-2 c =
     let r = c .before .before .before in
@@ -59,13 +47,13 @@ pub make-calls-spec : {M : Type 1} → statement M
 make-calls-spec =
     tie.close
     (tie.spec
-    plan-order-requires
-    enum-known-answer
-    enum-known-answer-2
+    (λ c κs. search needs)
+    (λ c. search needs)
+    (λ c. search needs)
     returns
     cast-periods
     array-share-prefix-demands
     slice-aggregate-record-plan
     record-plan-requires
-    same-length
+    (λ c. search needs)
     returns-2)

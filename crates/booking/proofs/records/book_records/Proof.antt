@@ -23,17 +23,8 @@ called c = c .before .before .before .before
 abbrev booked-at : tie.After-spread → tie.After-answer
 booked-at c = c .before .before .before
 
-make-calls-requires : tie.Need-make-calls-requires
-make-calls-requires c κs = search needs
-
-enum-known-answer : tie.Need-enum-known-answer
-enum-known-answer c = search needs
-
 enum-told : tie.Need-enum-told
 enum-told c = search needs
-
-same-length : tie.Need-same-length
-same-length c = search needs
 
 returns : tie.Need-returns
 returns c =
@@ -58,12 +49,6 @@ store-demands-requires c κs =
     let m = called a in
     simp length-take (omega (arith, periods-inside _ (bytes m) _ (start-of m .args .demands .now) refl _ _ (m .make-calls .result) (m .make-calls .ensures) _ (ap bookingSays (a .answer .given .1)) .1))
 
-same-length-2 : tie.Need-same-length-2
-same-length-2 c = search needs
-
-same-length-3 : tie.Need-same-length-3
-same-length-3 c = search needs
-
 returns-2 : tie.Need-returns-2
 returns-2 c =
     let d = c .before .before in
@@ -75,15 +60,15 @@ pub book-records-spec : {M : Type 1} → statement M
 book-records-spec =
     tie.close
     (tie.spec
-    make-calls-requires
-    enum-known-answer
+    (λ c κs. search needs)
+    (λ c. search needs)
     enum-told
-    same-length
+    (λ c. search needs)
     returns
     cast-periods
     array-share-prefix-spread
     slice-aggregate-store-demands
     store-demands-requires
-    same-length-2
-    same-length-3
+    (λ c. search needs)
+    (λ c. search needs)
     returns-2)

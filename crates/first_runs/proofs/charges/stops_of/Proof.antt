@@ -53,18 +53,6 @@ abbrev μ-loop : tie.MeasureT-loop
 loop-holds : tie.Need-loop-holds Inv-loop μ-loop
 loop-holds c = begin _ _ _
 
-sub-i : tie.Need-sub-i Inv-loop μ-loop
-sub-i c = search needs
-
-billed-periods-requires : tie.Need-billed-periods-requires Inv-loop μ-loop
-billed-periods-requires c κs = search needs
-
-cast-stop-at : tie.Need-cast-stop-at Inv-loop μ-loop
-cast-stop-at c = search needs
-
-mul-stop-at : tie.Need-mul-stop-at Inv-loop μ-loop
-mul-stop-at c = search needs
-
 abbrev entered : tie.After-shared-slice-known2 Inv-loop μ-loop → tie.In-loop Inv-loop μ-loop
 entered c = c .before .before .before
 
@@ -83,12 +71,6 @@ add-stop-at c =
 
 stop-at-requires : tie.Need-stop-at-requires Inv-loop μ-loop
 stop-at-requires c κs = let i = entered c in (omega (arith, c .before .before .billed-periods .ensures, i .loop-test .taken), start-of i .pre .1 .1)
-
-greater-charge-requires : tie.Need-greater-charge-requires Inv-loop μ-loop
-greater-charge-requires c κs = search needs
-
-mul-stops : tie.Need-mul-stops Inv-loop μ-loop
-mul-stops c = search needs
 
 array-write-stops : tie.Need-array-write-stops Inv-loop μ-loop
 array-write-stops c =
@@ -115,15 +97,15 @@ stops-of-spec =
     Inv-loop
     μ-loop
     loop-holds
-    sub-i
-    billed-periods-requires
-    cast-stop-at
-    mul-stop-at
+    (λ c. search needs)
+    (λ c κs. search needs)
+    (λ c. search needs)
+    (λ c. search needs)
     shared-slice-read-stop-at
     add-stop-at
     stop-at-requires
-    greater-charge-requires
-    mul-stops
+    (λ c κs. search needs)
+    (λ c. search needs)
     array-write-stops
     loop-less
     loop-again

@@ -11,9 +11,6 @@ use Rattle.first_runs.proofs.runs.cost_with.Tie as tie
 product : (charge i : ℕ) → charge ≤ periodLimit → i < traceLimit → charge * (i + 1) ≤ periodLimit * traceLimit
 product charge i h l = let m : i + 1 ≤ traceLimit = omega arith in mul-le-mul h m
 
-add-cost-at : tie.Need-add-cost-at
-add-cost-at c = search needs
-
 cost-at-requires : tie.Need-cost-at-requires
 cost-at-requires c κs = (c .pre .0, (omega (arith, c .pre .1 .0), c .pre .1 .1 .0))
 
@@ -22,8 +19,5 @@ add-result c =
     let s = c .before in
     omega (arith, c .cost-at .ensures, product (s .args .charge) (s .args .i) (s .pre .1 .1 .0) (s .pre .1 .0), s .pre .0 .fees, s .pre .1 .1 .1)
 
-returns : tie.Need-returns
-returns c = search needs
-
 pub cost-with-spec : {M : Type 1} → statement M
-cost-with-spec = tie.close (tie.spec add-cost-at cost-at-requires add-result returns)
+cost-with-spec = tie.close (tie.spec (λ c. search needs) cost-at-requires add-result (λ c. search needs))

@@ -18,18 +18,9 @@ Inv-loop trace tariff low high costs counts stops found walk₀ i₀ walk i = Pa
 abbrev μ-loop : tie.MeasureT-loop
 μ-loop trace tariff low high costs counts stops found walk₀ i₀ walk i = length trace - i
 
-new-requires : tie.Need-new-requires Inv-loop μ-loop
-new-requires c κs = search needs
-
 loop-holds : tie.Need-loop-holds Inv-loop μ-loop
 loop-holds c =
     passing-start _ _ _ _ _ _ (c .before .before .before .before .before .pre .1 .1) _ _ _ (walked-start _ _ _ _ (c .new .ensures .0) (c .new .ensures .1))
-
-mul-push : tie.Need-mul-push Inv-loop μ-loop
-mul-push c = search needs
-
-shared-slice-read-push : tie.Need-shared-slice-read-push Inv-loop μ-loop
-shared-slice-read-push c = search needs
 
 -- the demands are 16-bit numbers
 demands : (c : tie.At-loop Inv-loop μ-loop) → Demands (c .before .before .before .before .before .before .args .trace .now)
@@ -121,10 +112,10 @@ may-better-spec =
     (tie.spec
     Inv-loop
     μ-loop
-    new-requires
+    (λ c κs. search needs)
     loop-holds
-    mul-push
-    shared-slice-read-push
+    (λ c. search needs)
+    (λ c. search needs)
     push-requires
     mul-if1
     shared-slice-read-if1

@@ -16,18 +16,9 @@ Inv-loop trace tariff rate costs counts stops best₀ walk₀ i₀ best walk i =
 abbrev μ-loop : tie.MeasureT-loop
 μ-loop trace tariff rate costs counts stops best₀ walk₀ i₀ best walk i = length trace - i
 
-new-requires : tie.Need-new-requires Inv-loop μ-loop
-new-requires c κs = search needs
-
 loop-holds : tie.Need-loop-holds Inv-loop μ-loop
 loop-holds c =
     weighing-start _ _ _ _ _ _ (c .before .before .before .before .before .pre .1) _ _ (walked-start _ _ _ _ (c .new .ensures .0) (c .new .ensures .1))
-
-mul-push : tie.Need-mul-push Inv-loop μ-loop
-mul-push c = search needs
-
-shared-slice-read-push : tie.Need-shared-slice-read-push Inv-loop μ-loop
-shared-slice-read-push c = search needs
 
 -- the demands are 16-bit numbers
 demands : (c : tie.At-loop Inv-loop μ-loop) → Demands (c .before .before .before .before .before .before .args .trace .now)
@@ -105,9 +96,6 @@ add-i c = omega (arith, period (c .before .before .before .before .before .befor
 cast-t22 : tie.Need-cast-t22 Inv-loop μ-loop
 cast-t22 c = omega (arith, period (c .before .before .before .before .before .before .before .before))
 
-better-of-requires : tie.Need-better-of-requires Inv-loop μ-loop
-better-of-requires c κs = search needs
-
 loop-less : tie.Need-loop-less Inv-loop μ-loop
 loop-less c = omega (arith, c .before .before .before .before .before .before .before .before .before .loop-test .taken)
 
@@ -129,10 +117,10 @@ weigh-rate-spec =
     (tie.spec
     Inv-loop
     μ-loop
-    new-requires
+    (λ c κs. search needs)
     loop-holds
-    mul-push
-    shared-slice-read-push
+    (λ c. search needs)
+    (λ c. search needs)
     push-requires
     mul-if1
     shared-slice-read-if1
@@ -145,7 +133,7 @@ weigh-rate-spec =
     add-buckets
     add-i
     cast-t22
-    better-of-requires
+    (λ c κs. search needs)
     loop-less
     loop-again
     returns-2)

@@ -12,9 +12,6 @@ stops-of-requires c κs =
     let k = c .before .before .before .before .before .pre .1 .1 in
     (rests-costs _ _ _ _ k, (k .tariffs, kind-cost _ _ _ _ _ (c .weigh-rate .ensures .kind)))
 
-slice-aggregate-weigh-all : tie.Need-slice-aggregate-weigh-all
-slice-aggregate-weigh-all c = search needs
-
 weigh-all-requires : tie.Need-weigh-all-requires
 weigh-all-requires c κs =
     let d = c .before in
@@ -30,6 +27,6 @@ best-first-spec =
     (tie.spec
     weigh-rate-requires
     stops-of-requires
-    slice-aggregate-weigh-all
+    (λ c. search needs)
     weigh-all-requires
     returns)

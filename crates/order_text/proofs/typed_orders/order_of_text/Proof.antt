@@ -24,18 +24,6 @@ inside c =
     let f = subst StepFits (c .at .given .1) (c .before .before .before .read-figures .ensures .1) in
     omega (arith, f .few, c .before .before .figures2 .given)
 
-slice-aggregate-read-figures : tie.Need-slice-aggregate-read-figures
-slice-aggregate-read-figures c = search needs
-
-read-figures-requires : tie.Need-read-figures-requires
-read-figures-requires c κs = search needs
-
-enum-known-at : tie.Need-enum-known-at
-enum-known-at c = search needs
-
-enum-known-fault : tie.Need-enum-known-fault
-enum-known-fault c = search needs
-
 returns : tie.Need-returns
 returns c =
     let d = c .before .before .before .before in
@@ -53,9 +41,6 @@ write-figures-requires c κs =
     let a = c .before .before .before in
     text-figures _ _ (reads (a .before .before .before) _ (a .at .given .1))
 
-same-length : tie.Need-same-length
-same-length c = search needs
-
 returns-2 : tie.Need-returns-2
 returns-2 c =
     let w = c .before .before in
@@ -68,13 +53,13 @@ pub order-of-text-spec : {M : Type 1} → statement M
 order-of-text-spec =
     tie.close
     (tie.spec
-    slice-aggregate-read-figures
-    read-figures-requires
-    enum-known-at
-    enum-known-fault
+    (λ c. search needs)
+    (λ c κs. search needs)
+    (λ c. search needs)
+    (λ c. search needs)
     returns
     array-share-prefix-figures
     slice-aggregate-write-figures
     write-figures-requires
-    same-length
+    (λ c. search needs)
     returns-2)

@@ -13,21 +13,6 @@ use Rattle.order_text.specs.TextLaws.{copied-front, order-written}
 use Rattle.order_text.proofs.typed_orders.write_figures.Statement.{statement}
 use Rattle.order_text.proofs.typed_orders.write_figures.Tie as tie
 
-sub-periods : tie.Need-sub-periods
-sub-periods c = search needs
-
-sub-load-demands : tie.Need-sub-load-demands
-sub-load-demands c = search needs
-
-part-load-demands-start : tie.Need-part-load-demands-start
-part-load-demands-start c = search needs
-
-part-load-demands-end : tie.Need-part-load-demands-end
-part-load-demands-end c = search needs
-
-slice-aggregate-load-demands : tie.Need-slice-aggregate-load-demands
-slice-aggregate-load-demands c = search needs
-
 load-demands-requires : tie.Need-load-demands-requires
 load-demands-requires c κs =
     let s = c .before .before .before .before in
@@ -35,25 +20,10 @@ load-demands-requires c κs =
     let e = part-to-end ns tariffFigures in
     (omega (arith, ap length e, length-drop tariffFigures ns, s .pre .few), subst (Fit 2) (sym e) (demands-fit ns (s .pre)))
 
-tariff-of-requires : tie.Need-tariff-of-requires
-tariff-of-requires c κs = search needs
-
-array-share-prefix-demands : tie.Need-array-share-prefix-demands
-array-share-prefix-demands c = search needs
-
 slice-aggregate-write-order : tie.Need-slice-aggregate-write-order
 slice-aggregate-write-order c =
     let s = c .before .before .before .before .before .before .before .before in
     sym (length-take-le _ _ (omega (arith, s .pre .few, c .before .before .demands2 .given)))
-
-write-order-requires : tie.Need-write-order-requires
-write-order-requires c κs = search needs
-
-answer-of-requires : tie.Need-answer-of-requires
-answer-of-requires c κs = search needs
-
-same-length : tie.Need-same-length
-same-length c = search needs
 
 returns : tie.Need-returns
 returns c =
@@ -71,16 +41,16 @@ pub write-figures-spec : {M : Type 1} → statement M
 write-figures-spec =
     tie.close
     (tie.spec
-    sub-periods
-    sub-load-demands
-    part-load-demands-start
-    part-load-demands-end
-    slice-aggregate-load-demands
+    (λ c. search needs)
+    (λ c. search needs)
+    (λ c. search needs)
+    (λ c. search needs)
+    (λ c. search needs)
     load-demands-requires
-    tariff-of-requires
-    array-share-prefix-demands
+    (λ c κs. search needs)
+    (λ c. search needs)
     slice-aggregate-write-order
-    write-order-requires
-    answer-of-requires
-    same-length
+    (λ c κs. search needs)
+    (λ c κs. search needs)
+    (λ c. search needs)
     returns)

@@ -53,12 +53,6 @@ add-at c =
     let s = i .before .before .before in
     omega (arith, i .before .loop .inv .place, i .loop-test .taken, s .pre .1)
 
-add-i : tie.Need-add-i Inv-loop μ-loop
-add-i c = search needs
-
-loop-less : tie.Need-loop-less Inv-loop μ-loop
-loop-less c = search needs
-
 loop-again : tie.Need-loop-again Inv-loop μ-loop
 loop-again c =
     let i = c .before .before in
@@ -70,9 +64,6 @@ loop-again c =
       place = omega (arith, w .place);
       weighed = one-weighed _ (w .weighed) _ _ (next ∙ ap (λ (x : BucketRecord). x ∷ rest) (sym (c .before .record-at .ensures))) _ (c .push .ensures .0) (c .push .ensures .1);
     }
-
-whole-requires : tie.Need-whole-requires Inv-loop μ-loop
-whole-requires c κs = search needs
 
 returns : tie.Need-returns Inv-loop μ-loop
 returns c = c .whole .ensures ∙ all-weighed _ (c .before .before .loop .inv .weighed) (items-none _ 12 _ _ _ (c .before .loop-test .left)) _
@@ -87,8 +78,8 @@ records-in-file-spec =
     record-at-requires
     push-requires
     add-at
-    add-i
-    loop-less
+    (λ c. search needs)
+    (λ c. search needs)
     loop-again
-    whole-requires
+    (λ c κs. search needs)
     returns)

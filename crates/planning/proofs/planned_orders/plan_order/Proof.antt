@@ -22,31 +22,10 @@ spread-at c = order-at c .before .before .before
 inside : (c : tie.After-struct-known) → order-at c .x .given .0 .0 .periods ≤ length (spread-at c .spread-order .last .1 .0)
 inside c = demands-inside _ _ _ _ (spread-at c .spread-order .ensures) _ (ap orderSays (order-at c .x .given .1))
 
-slice-aggregate-spread-order : tie.Need-slice-aggregate-spread-order
-slice-aggregate-spread-order c = search needs
-
-spread-order-requires : tie.Need-spread-order-requires
-spread-order-requires c κs = search needs
-
-enum-known-x : tie.Need-enum-known-x
-enum-known-x c = search needs
-
-enum-known-why : tie.Need-enum-known-why
-enum-known-why c = search needs
-
-refused-requires : tie.Need-refused-requires
-refused-requires c κs = search needs
-
 returns : tie.Need-returns
 returns c =
     let w = c .before .before in
     planning-refused _ _ _ _ _ (w .before .before .before .spread-order .ensures) _ _ (c .refused .ensures) (ap orderSays (w .why .given .1))
-
-cast-periods : tie.Need-cast-periods
-cast-periods c = search needs
-
-refused-requires-2 : tie.Need-refused-requires-2
-refused-requires-2 c κs = search needs
 
 returns-2 : tie.Need-returns-2
 returns-2 c =
@@ -58,12 +37,6 @@ array-share-prefix-demands c = inside (c .before .before)
 
 slice-aggregate-plan-series : tie.Need-slice-aggregate-plan-series
 slice-aggregate-plan-series c = sym (length-take-le _ _ (inside (c .before .before .before)))
-
-plan-series-requires : tie.Need-plan-series-requires
-plan-series-requires c κs = search needs
-
-with-order-requires : tie.Need-with-order-requires
-with-order-requires c κs = search needs
 
 returns-3 : tie.Need-returns-3
 returns-3 c =
@@ -77,17 +50,17 @@ pub plan-order-spec : {M : Type 1} → statement M
 plan-order-spec =
     tie.close
     (tie.spec
-    slice-aggregate-spread-order
-    spread-order-requires
-    enum-known-x
-    enum-known-why
-    refused-requires
+    (λ c. search needs)
+    (λ c κs. search needs)
+    (λ c. search needs)
+    (λ c. search needs)
+    (λ c κs. search needs)
     returns
-    cast-periods
-    refused-requires-2
+    (λ c. search needs)
+    (λ c κs. search needs)
     returns-2
     array-share-prefix-demands
     slice-aggregate-plan-series
-    plan-series-requires
-    with-order-requires
+    (λ c κs. search needs)
+    (λ c κs. search needs)
     returns-3)

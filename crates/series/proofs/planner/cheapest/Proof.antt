@@ -10,28 +10,10 @@ use Rattle.series.proofs.planner.cheapest.Tie as tie
 abbrev start-of : tie.After-cut-suffixes → tie.Start
 start-of c = c .before .before .before .before .before
 
-slice-aggregate-cut-suffixes : tie.Need-slice-aggregate-cut-suffixes
-slice-aggregate-cut-suffixes c = search needs
-
-slice-aggregate-cut-suffixes-2 : tie.Need-slice-aggregate-cut-suffixes-2
-slice-aggregate-cut-suffixes-2 c = search needs
-
-slice-aggregate-cut-suffixes-3 : tie.Need-slice-aggregate-cut-suffixes-3
-slice-aggregate-cut-suffixes-3 c = search needs
-
 cut-suffixes-requires : tie.Need-cut-suffixes-requires
 cut-suffixes-requires c κs =
     let s = c .before .before .before .before in
     (s .pre .0 .few, (s .pre .1, kept-start _ _ (s .pre .0 .few)))
-
-array-read-buckets : tie.Need-array-read-buckets
-array-read-buckets c = search needs
-
-array-read-cost : tie.Need-array-read-cost
-array-read-cost c = search needs
-
-refused-requires : tie.Need-refused-requires
-refused-requires c κs = search needs
 
 returns : tie.Need-returns
 returns c =
@@ -39,9 +21,6 @@ returns c =
     let s = start-of d in
     refusal (s .args .tariff) _ _ _ (c .refused .ensures)
     (kept-none _ (s .pre .1) _ (s .pre .0 .few) _ _ _ (d .cut-suffixes .ensures) (c .before .if1 .taken))
-
-slice-aggregate-record-runs : tie.Need-slice-aggregate-record-runs
-slice-aggregate-record-runs c = search needs
 
 record-runs-requires : tie.Need-record-runs-requires
 record-runs-requires c κs =
@@ -61,14 +40,14 @@ pub cheapest-spec : {M : Type 1} → statement M
 cheapest-spec =
     tie.close
     (tie.spec
-    slice-aggregate-cut-suffixes
-    slice-aggregate-cut-suffixes-2
-    slice-aggregate-cut-suffixes-3
+    (λ c. search needs)
+    (λ c. search needs)
+    (λ c. search needs)
     cut-suffixes-requires
-    array-read-buckets
-    array-read-cost
-    refused-requires
+    (λ c. search needs)
+    (λ c. search needs)
+    (λ c κs. search needs)
     returns
-    slice-aggregate-record-runs
+    (λ c. search needs)
     record-runs-requires
     returns-2)

@@ -41,12 +41,6 @@ module _ (t : Tariff) (room : ℕ) (ds : List ℕ) where
       unfolding seriesOf
       past-tests l = rw (h, k, l)
 
-periods-in-range-requires : tie.Need-periods-in-range-requires
-periods-in-range-requires c κs = search needs
-
-refused-requires : tie.Need-refused-requires
-refused-requires c κs = search needs
-
 returns : tie.Need-returns
 returns c =
     let s = c .before .before .before .before .args in
@@ -55,12 +49,6 @@ returns c =
 -- past the first test
 periods : (c : tie.Else1) → periodsOk (length (c .before .before .before .args .trace .now)) ≡ true
 periods c = check-passed (c .before .periods-in-range .ensures) (c .if1 .left)
-
-tariff-in-range-requires : tie.Need-tariff-in-range-requires
-tariff-in-range-requires c κs = search needs
-
-refused-requires-2 : tie.Need-refused-requires-2
-refused-requires-2 c κs = search needs
 
 returns-2 : tie.Need-returns-2
 returns-2 c =
@@ -71,9 +59,6 @@ returns-2 c =
 -- past the second
 figures : (c : tie.Else2) → tariffOk (c .before .before .before .before .before .args .tariff) ≡ true
 figures c = check-passed (c .before .tariff-in-range .ensures) (c .if2 .left)
-
-refused-requires-3 : tie.Need-refused-requires-3
-refused-requires-3 c κs = search needs
 
 returns-3 : tie.Need-returns-3
 returns-3 c =
@@ -96,13 +81,13 @@ pub plan-series-spec : {M : Type 1} → statement M
 plan-series-spec =
     tie.close
     (tie.spec
-    periods-in-range-requires
-    refused-requires
+    (λ c κs. search needs)
+    (λ c κs. search needs)
     returns
-    tariff-in-range-requires
-    refused-requires-2
+    (λ c κs. search needs)
+    (λ c κs. search needs)
     returns-2
-    refused-requires-3
+    (λ c κs. search needs)
     returns-3
     cheapest-requires
     returns-4)

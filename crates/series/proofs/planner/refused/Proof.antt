@@ -3,11 +3,8 @@ use borrow.Author.Needs.{needs}
 use Rattle.series.proofs.planner.refused.Statement.{statement}
 use Rattle.series.proofs.planner.refused.Tie as tie
 
-blank-records-requires : tie.Need-blank-records-requires
-blank-records-requires c κs = search needs
-
 returns : tie.Need-returns
 returns c = rw (c .blank-records .ensures)
 
 pub refused-spec : {M : Type 1} → statement M
-refused-spec = tie.close (tie.spec blank-records-requires returns)
+refused-spec = tie.close (tie.spec (λ c κs. search needs) returns)

@@ -121,17 +121,8 @@ Inv-loop trace tariff firsts records₀ start₀ k₀ records start k = Recordin
 abbrev μ-loop : tie.MeasureT-loop
 μ-loop trace tariff firsts records₀ start₀ k₀ records start k = length trace - start
 
-blank-records-requires : tie.Need-blank-records-requires Inv-loop μ-loop
-blank-records-requires c κs = search needs
-
 loop-holds : tie.Need-loop-holds Inv-loop μ-loop
 loop-holds c = begin _ _ _ _ (c .blank-records .ensures) (c .before .before .before .pre .1 .1)
-
-mul-periods : tie.Need-mul-periods Inv-loop μ-loop
-mul-periods c = search needs
-
-shared-slice-read-periods : tie.Need-shared-slice-read-periods Inv-loop μ-loop
-shared-slice-read-periods c = search needs
 
 abbrev start-of : tie.In-loop Inv-loop μ-loop → tie.Start Inv-loop μ-loop
 start-of c = c .before .before .before .before .before
@@ -146,15 +137,6 @@ cast-end c = omega (arith, run-ends (c .before), start-of (c .before) .pre .0 .f
 add-end : tie.Need-add-end Inv-loop μ-loop
 add-end c = omega (arith, run-ends (c .before), start-of (c .before) .pre .0 .few)
 
-mul-bucket-of : tie.Need-mul-bucket-of Inv-loop μ-loop
-mul-bucket-of c = search needs
-
-sub-bucket-of : tie.Need-sub-bucket-of Inv-loop μ-loop
-sub-bucket-of c = search needs
-
-part-bucket-of-start : tie.Need-part-bucket-of-start Inv-loop μ-loop
-part-bucket-of-start c = search needs
-
 part-bucket-of-end : tie.Need-part-bucket-of-end Inv-loop μ-loop
 part-bucket-of-end c = run-ends (c .before)
 
@@ -165,16 +147,10 @@ bucket-of-requires c κs =
     let f = s .pre .1 .1 in
     (part-range _ _ _ _ _ (i .before .loop .inv) _ f (i .loop-test .taken) (s .pre .0), (s .pre .1 .0, (_, part-record _ _ _ _ _ (i .before .loop .inv) _ f (i .loop-test .taken))))
 
-mul-records : tie.Need-mul-records Inv-loop μ-loop
-mul-records c = search needs
-
 array-set-from-records : tie.Need-array-set-from-records Inv-loop μ-loop
 array-set-from-records c =
     let i = c .before .before .before in
     k-room _ _ _ _ _ (i .before .loop .inv) _ (start-of i .pre .1 .1) (i .loop-test .taken) (start-of i .pre .0)
-
-add-k : tie.Need-add-k Inv-loop μ-loop
-add-k c = search needs
 
 loop-less : tie.Need-loop-less Inv-loop μ-loop
 loop-less c =
@@ -195,20 +171,20 @@ record-runs-spec =
     (tie.spec
     Inv-loop
     μ-loop
-    blank-records-requires
+    (λ c κs. search needs)
     loop-holds
-    mul-periods
-    shared-slice-read-periods
+    (λ c. search needs)
+    (λ c. search needs)
     cast-end
     add-end
-    mul-bucket-of
-    sub-bucket-of
-    part-bucket-of-start
+    (λ c. search needs)
+    (λ c. search needs)
+    (λ c. search needs)
     part-bucket-of-end
     bucket-of-requires
-    mul-records
+    (λ c. search needs)
     array-set-from-records
-    add-k
+    (λ c. search needs)
     loop-less
     loop-again
     returns)

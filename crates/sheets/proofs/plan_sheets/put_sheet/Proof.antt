@@ -9,25 +9,16 @@ put-plan-line-requires c κs =
     let s = c .before .before .before .before .before .before in
     first-room (s .pre .0) (s .args .text .now) (s .pre .1)
 
-cast-trace : tie.Need-cast-trace
-cast-trace c = search needs
-
 slice-aggregate-trace : tie.Need-slice-aggregate-trace
 slice-aggregate-trace c =
     let s = c .before .before .before .before .before .before .before .before .before .before .before in
     trace-length (s .pre .0) (s .args .text .now) (s .pre .1)
-
-cast-put-runs : tie.Need-cast-put-runs
-cast-put-runs c = search needs
 
 put-runs-requires : tie.Need-put-runs-requires
 put-runs-requires c κs =
     let l = c .before .before .before .before .before .before in
     let s = l .before .before .before .before .before .before .before in
     runs-ready (s .pre .0) (s .args .text .now) (s .pre .1) _ _ (l .put-plan-line .ensures)
-
-same-length : tie.Need-same-length
-same-length c = search needs
 
 returns : tie.Need-returns
 returns c =
@@ -41,9 +32,9 @@ put-sheet-spec =
     tie.close
     (tie.spec
     put-plan-line-requires
-    cast-trace
+    (λ c. search needs)
     slice-aggregate-trace
-    cast-put-runs
+    (λ c. search needs)
     put-runs-requires
-    same-length
+    (λ c. search needs)
     returns)

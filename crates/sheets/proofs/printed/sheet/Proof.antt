@@ -22,25 +22,10 @@ ready a = shown _ (planned-at a) (plan-at a .plan-order .ensures) _ (ap plannedS
 abbrev found-at : tie.After-demands2 → tie.After-answer
 found-at c = c .before .before .before .before .before
 
-plan-order-requires : tie.Need-plan-order-requires
-plan-order-requires c κs = search needs
-
-enum-known-answer : tie.Need-enum-known-answer
-enum-known-answer c = search needs
-
-enum-known-answer-2 : tie.Need-enum-known-answer-2
-enum-known-answer-2 c = search needs
-
 returns : tie.Need-returns
 returns c =
     let p = c .before .before .before in
     sheet-refused _ (p .plan-order .result) (p .plan-order .ensures) _ (ap plannedSays (c .before .answer2 .given .1)) (p .before .before .before .args .text .now)
-
-slice-aggregate-put-sheet : tie.Need-slice-aggregate-put-sheet
-slice-aggregate-put-sheet c = search needs
-
-slice-aggregate-put-sheet-2 : tie.Need-slice-aggregate-put-sheet-2
-slice-aggregate-put-sheet-2 c = search needs
 
 put-sheet-requires : tie.Need-put-sheet-requires
 put-sheet-requires c κs = (ready (found-at c), long longestSheet)
@@ -55,12 +40,6 @@ slice-aggregate-fill c =
     let p = c .before .before in
     ready-count _ _ (sheet-room (ready (found-at (p .before))) (zeros longestSheet) (long longestSheet)) _ _ (p .put-sheet .ensures)
 
-fill-requires : tie.Need-fill-requires
-fill-requires c κs = search needs
-
-same-length : tie.Need-same-length
-same-length c = search needs
-
 returns-2 : tie.Need-returns-2
 returns-2 c =
     let p = c .before .before .before .before .before .before in
@@ -73,15 +52,15 @@ pub sheet-spec : {M : Type 1} → statement M
 sheet-spec =
     tie.close
     (tie.spec
-    plan-order-requires
-    enum-known-answer
-    enum-known-answer-2
+    (λ c κs. search needs)
+    (λ c. search needs)
+    (λ c. search needs)
     returns
-    slice-aggregate-put-sheet
-    slice-aggregate-put-sheet-2
+    (λ c. search needs)
+    (λ c. search needs)
     put-sheet-requires
     array-share-prefix-ready
     slice-aggregate-fill
-    fill-requires
-    same-length
+    (λ c κs. search needs)
+    (λ c. search needs)
     returns-2)

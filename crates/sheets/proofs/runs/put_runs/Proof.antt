@@ -34,9 +34,6 @@ inside c =
 loop-holds : tie.Need-loop-holds Inv-loop μ-loop
 loop-holds c = none-printed _ _ _ _ _ _ (c .before .before .pre .1 .0)
 
-mul-record : tie.Need-mul-record Inv-loop μ-loop
-mul-record c = search needs
-
 array-copy-out-record : tie.Need-array-copy-out-record Inv-loop μ-loop
 array-copy-out-record c = omega (arith, start-of c .pre .0)
 
@@ -51,12 +48,6 @@ cast-first c = let i = c .before .before in omega (arith, inside i, start-of i .
 
 add-first : tie.Need-add-first Inv-loop μ-loop
 add-first c = let i = c .before .before in omega (arith, inside i, start-of i .pre .1 .0 .few)
-
-mul-put-run : tie.Need-mul-put-run Inv-loop μ-loop
-mul-put-run c = search needs
-
-sub-put-run : tie.Need-sub-put-run Inv-loop μ-loop
-sub-put-run c = search needs
 
 part-put-run-start : tie.Need-part-put-run-start Inv-loop μ-loop
 part-put-run-start c = omega (arith, inside (c .before .before .before))
@@ -75,9 +66,6 @@ add-i : tie.Need-add-i Inv-loop μ-loop
 add-i c =
     let i = c .before .before .before .before .before .before .before in
     omega (arith, i .loop-test .taken, start-of i .fits .buckets .fits)
-
-loop-less : tie.Need-loop-less Inv-loop μ-loop
-loop-less c = search needs
 
 loop-again : tie.Need-loop-again Inv-loop μ-loop
 loop-again c =
@@ -99,19 +87,19 @@ put-runs-spec =
     Inv-loop
     μ-loop
     loop-holds
-    mul-record
+    (λ c. search needs)
     array-copy-out-record
     cast-end
     add-end
     cast-first
     add-first
-    mul-put-run
-    sub-put-run
+    (λ c. search needs)
+    (λ c. search needs)
     part-put-run-start
     part-put-run-end
     put-run-requires
     add-i
-    loop-less
+    (λ c. search needs)
     loop-again
     same-length
     returns)

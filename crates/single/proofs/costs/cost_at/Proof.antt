@@ -15,14 +15,8 @@ product c =
     let n : c .billed-periods .result ≤ traceLimit = omega (arith, c .billed-periods .ensures, s .pre .1 .0) in
     mul-le-mul (s .pre .1 .1) n
 
-billed-periods-requires : tie.Need-billed-periods-requires
-billed-periods-requires c κs = search needs
-
 mul-result : tie.Need-mul-result
 mul-result c = omega (arith, product c)
-
-cast-result : tie.Need-cast-result
-cast-result c = search needs
 
 add-result : tie.Need-add-result
 add-result c = let b = c .before in omega (arith, product b, b .before .pre .0 .fees)
@@ -31,4 +25,4 @@ returns : tie.Need-returns
 returns c = let b = c .before in rw (b .billed-periods .ensures) refl
 
 pub cost-at-spec : {M : Type 1} → statement M
-cost-at-spec = tie.close (tie.spec billed-periods-requires mul-result cast-result add-result returns)
+cost-at-spec = tie.close (tie.spec (λ c κs. search needs) mul-result (λ c. search needs) add-result returns)

@@ -15,9 +15,6 @@ use native.Mathlib.Omega.{arith}
 use Rattle.first_runs.proofs.charges.Charged.push.Statement.{statement}
 use Rattle.first_runs.proofs.charges.Charged.push.Tie as tie
 
-push-requires : tie.Need-push-requires
-push-requires c κs = search needs
-
 depth-after-requires : tie.Need-depth-after-requires
 depth-after-requires c κs =
     let s = c .before .before .before in
@@ -28,9 +25,6 @@ depth-after-requires c κs =
         (subst (λ (w : Walk). s .args .self .walk .stretch ≤ w .stretch) (sym (c .push .ensures)) (pushed-stretch _ _ _), s .pre .1 .1 .1 .1),
       ),
     )
-
-enum-known-depth : tie.Need-enum-known-depth
-enum-known-depth c = search needs
 
 enum-told : tie.Need-enum-told
 enum-told c = search needs
@@ -71,9 +65,9 @@ pub push-spec : {M : Type 1} → statement M
 push-spec =
     tie.close
     (tie.spec
-    push-requires
+    (λ c κs. search needs)
     depth-after-requires
-    enum-known-depth
+    (λ c. search needs)
     enum-told
     returns
     charge-of-requires
