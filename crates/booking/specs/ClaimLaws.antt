@@ -9,7 +9,7 @@ use mathlib.Core.Logic.{_⊎_, inl, inr, ⊎-elim}
 use borrow.Author.Tests.{le-leb}
 use lib.ListN.{length, take}
 use Rattle.terms.specs.declared.Tariff.{Tariff}
-use Rattle.terms.specs.Answer.{Answer, figures, refused, onFigures, andThen}
+use Rattle.terms.specs.Answer.{Answer, figures, refused, onFigures}
 use Rattle.terms.specs.AnswerLaws.{figures-refused, then-figures, then-refused}
 use Rattle.terms.specs.LentLaws.{filled-front, filled-length}
 use Rattle.terms.specs.RangeRules.{PeriodsRange}

@@ -25,7 +25,7 @@ use Rattle.recording.specs.declared.recorded.Booking.{Booking}
 use Rattle.recording.specs.Recording.{bookingSays}
 use Rattle.booking.specs.declared.calls.BookedRecords.{BookedRecords}
 use Rattle.booking.specs.Booking.{Lent, Steps, lent, booked, answerOf, lentAfter}
-use Rattle.booking.specs.CallLaws.{Sizes, Called, sizes, sizesOf, plannedIn, bookedIn}
+use Rattle.booking.specs.CallLaws.{Sizes, Called, sizesOf, bookedIn}
 use Rattle.booking.specs.Claim.{Claim}
 use Rattle.booking.specs.ClaimLaws.{booked-sizes, claim-holds}
 use Rattle.booking.specs.StepLaws.{Found, found-back, found-recorded, found-same, planned-short, steps-found}

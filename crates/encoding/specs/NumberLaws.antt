@@ -77,15 +77,6 @@ number-next w bs at l =
 
 -- ---- Items of one width
 
--- The i-th item lies i widths on.
-pub item-at : {A : Type 0} (read : ℕ → A) (width n at i : ℕ) (d : A) → i < n → getD (itemsAt read width n at) i d ≡ read (at + width * i)
-unfolding itemsAt
-item-at read width zero at i d l = absurd (omega arith)
-item-at read width (suc n) at zero d l = let e : at ≡ at + width * 0 = omega (arith, mul-zero width) in ap read e
-item-at read width (suc n) at (suc i) d l =
-    let e : at + width + width * i ≡ at + width * suc i = omega (arith, mul-suc width i) in
-    item-at read width n (at + width) i d (omega arith) ∙ ap read e
-
 -- Each item is Ok where the item at each index is; d stands past the end.
 pub each-at : {A : Type 0} (Ok : A → Type 0) (d : A) (xs : List A) → ((i : ℕ) → i < length xs → Ok (getD xs i d)) → Each Ok xs
 each-at Ok d [] h = tt

@@ -15,7 +15,7 @@ use Rattle.terms.specs.declared.Tariff.{Tariff}
 use Rattle.terms.specs.Answer.{Answer, figures, refused}
 use Rattle.terms.specs.AnswerLaws.{figures-refused, same-figures}
 use Rattle.terms.specs.Bools.{and-both, both-and}
-use Rattle.terms.specs.Limits.{rateLimit, depthLimit, priceLimit, traceLimit}
+use Rattle.terms.specs.Limits.{rateLimit, traceLimit}
 use Rattle.terms.specs.RangeRules.{BucketRange, FactorRange, TariffRange}
 use Rattle.bucket.specs.Step.{over, held}
 use Rattle.bucket.specs.Trace.{Demands, carries, carriesFrom}

@@ -1,7 +1,7 @@
 -- The search from one start on finds the outline of the best cutting: what it has weighed, or shown to cost more than
 -- what is found, is not chosen before what is found.
 -- Assumes nothing.
-use Prim.Native.Nat.{ℕ, _+_, _*_, _≤_, _<_}
+use Prim.Native.Nat.{ℕ, _+_, _≤_, _<_}
 use native.Mathlib.Omega.{arith}
 use native.Mathlib.Nat.{le-refl, le-trans, le-of-eq, le-antisymm, add-le-add, mul-le-mul-right}
 use mathlib.Core.Path.{_≡_, refl, sym, ap, subst, _∙_}

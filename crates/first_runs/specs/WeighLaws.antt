@@ -1,7 +1,7 @@
 -- One walk to the right: after i periods the runs of 1 to i periods are weighed, or shown to cost more than what is
 -- found; and where the walk stops all longer ones cost more too.
 -- Assumes nothing.
-use Prim.Native.Nat.{ℕ, _+_, _*_, _≤_, _<_}
+use Prim.Native.Nat.{ℕ, _+_, _≤_, _<_}
 use native.Mathlib.Omega.{arith}
 use native.Mathlib.Nat.{le-refl, le-trans, le-of-eq, le-antisymm}
 use mathlib.Core.Path.{_≡_, refl, sym, ap, subst, _∙_}

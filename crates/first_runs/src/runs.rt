@@ -7,7 +7,7 @@ use crate::outlines::better_of;
 use single::costs::cost_at;
 use terms::Rate;
 use terms::Tariff;
-ghost use Prim.Native.Nat.{_+_, _*_, _≤_, _<_};
+ghost use Prim.Native.Nat.{_+_, _≤_, _<_};
 ghost use mathlib.Core.Path.{_≡_};
 ghost use Rattle.terms.specs.Limits.{traceLimit};
 ghost use Rattle.terms.specs.RangeRules.{TariffRange};

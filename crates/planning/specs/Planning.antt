@@ -40,6 +40,3 @@ plannedFigures x = record { order = x .order; plan = record { buckets = length (
 
 abbrev pub cuttingOf : Answer Planned → Answer Cutting
 cuttingOf = onFigures (λ x. x .cutting)
-
-abbrev pub plannedDemands : Answer Planned → Answer (List ℕ)
-plannedDemands = onFigures (λ x. x .demands)

@@ -1,14 +1,13 @@
 -- An array that holds an answer's records: how long it is, what stands at its front, and that its front stored in a
 -- lent list fills that list as the answer does.
 -- Assumes nothing.
-use Prim.Native.Nat.{ℕ, _≤_}
-use native.Mathlib.Omega.{arith}
-use mathlib.Core.Path.{_≡_, refl, sym, ap, _∙_}
-use lib.ListN.{length, take, replicate, length-replicate}
+use Prim.Native.Nat.{ℕ}
+use mathlib.Core.Path.{_≡_, refl, ap, _∙_}
+use lib.ListN.{length, take, length-replicate}
 use Rattle.terms.specs.declared.BucketRecord.{BucketRecord}
 use Rattle.terms.specs.Answer.{Answer, figures, refused, onFigures}
 use Rattle.terms.specs.Lent.{filled}
-use Rattle.terms.specs.LentLaws.{filled-front, filled-length}
+use Rattle.terms.specs.LentLaws.{filled-front}
 use Rattle.terms.specs.Limits.{traceLimit}
 use Rattle.terms.specs.Records.{Cutting}
 use Rattle.record_list.specs.Held.{noRecord, blank, held, counted}
@@ -16,10 +15,6 @@ use Rattle.record_list.specs.Held.{noRecord, blank, held, counted}
 pub length-blank : length blank ≡ traceLimit
 unfolding blank
 length-blank = length-replicate {A = BucketRecord} traceLimit noRecord
-
-pub length-held : (a : Answer Cutting) → counted length a ≤ traceLimit → length (held a) ≡ traceLimit
-length-held (figures xs) l = filled-length xs blank (omega (arith, l, length-blank)) ∙ length-blank
-length-held (refused n) l = length-blank
 
 -- An array that holds the records xs: as many as there are, taken from its front, are these.
 pub held-records : (a : Answer Cutting) (records xs : Cutting) (n : ℕ) → records ≡ held a → a ≡ figures xs → n ≡ length xs → take n records ≡ xs

@@ -1,12 +1,8 @@
--- Laws of tests: a conjunction that is true, a bound by the smaller of two,
--- and a branch on the negation of a call's answer.
+-- Laws of tests: a conjunction that is true, and a branch on the negation of a call's answer.
 -- Assumes nothing.
-use Prim.Native.Nat.{ℕ, min}
-use native.Mathlib.Nat.{le-trans, le-min, min-le-left, min-le-right}
 use mathlib.Core.Path.{_≡_, refl, sym, _∙_}
 use mathlib.Core.Bool.{Bool, true, false, false≢true, not, _&&_}
-use borrow.Author.Tests.{leb-true, le-leb, not-true, not-false}
-use lib.Dec.{leb}
+use borrow.Author.Tests.{not-true, not-false}
 
 pub and-both : (a b : Bool) → a && b ≡ true → (a ≡ true) × (b ≡ true)
 and-both true b h = (refl, h)
@@ -36,18 +32,6 @@ true-false h k = false≢true (sym k ∙ h)
 pub not-true-false : (b : Bool) → (b ≡ true → ⊥) → b ≡ false
 not-true-false true h = absurd (h refl)
 not-true-false false h = refl
-
--- A number is at most each of two exactly when it is at most the smaller.
-pub leb-min : (n a b : ℕ) → leb n a && leb n b ≡ leb n (min a b)
-leb-min n a b = go (leb n (min a b)) refl
-  where
-    go : (c : Bool) → leb n (min a b) ≡ c → leb n a && leb n b ≡ c
-    go true e =
-        let l = leb-true n (min a b) e in
-        both-and (le-leb n a (le-trans l (min-le-left a b))) (le-leb n b (le-trans l (min-le-right a b)))
-    go false e = not-true-false _ (λ h.
-        let k = and-both (leb n a) (leb n b) h in
-        true-false (le-leb n (min a b) (le-min (leb-true n a (k .0)) (leb-true n b (k .1)))) e)
 
 -- After `if !check(..) { return .. }`, with a the call's answer and b what it promises:
 -- what holds past the branch and in it.

@@ -1,6 +1,5 @@
 -- The series is planned on the numbers spread, which are as many as the order says.
 use Prim.Native.Nat.{_≤_}
-use native.Mathlib.Omega.{arith}
 use mathlib.Core.Path.{sym, ap}
 use borrow.Author.Tests.{lt-leb}
 use lib.ListN.{length}

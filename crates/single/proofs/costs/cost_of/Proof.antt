@@ -1,7 +1,6 @@
 -- The cost at the bucket's charge, which is bounded.
 use Prim.Native.Nat.{ℕ, _≤_}
 use mathlib.Core.Path.{sym, ap, subst, _∙_}
-use borrow.Author.Needs.{needs}
 use Rattle.single.specs.Cost.{costAt, costOf}
 use Rattle.single.specs.CostLaws.{periodLimit, charge-le}
 use Rattle.single.proofs.costs.cost_of.Statement.{statement}
