@@ -38,3 +38,8 @@ pub fn small(word: &[u8]) -> u32 {
 pub fn figure(field: &[u8], n: usize) -> u32 {
     small(part(field, n, b' '))
 }
+
+// The same as a number of 8 bytes.
+pub fn large(field: &[u8], n: usize) -> u64 {
+    number(part(field, n, b' '))
+}
