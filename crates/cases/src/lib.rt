@@ -1,6 +1,7 @@
 // The cases of a test program, as data on its standard input: a line for each, in fields between bars.
 // Empty lines and lines that begin with # are no cases. For the test programs alone.
 mod escapes;
+mod files;
 mod made;
 mod numbers;
 mod orders;
@@ -10,6 +11,7 @@ mod traces;
 pub use escapes::PLAIN_ROOM;
 pub use escapes::plain;
 pub use escapes::plain_text;
+pub use files::file_of;
 pub use numbers::figure;
 pub use numbers::large;
 pub use numbers::number;

@@ -3,8 +3,8 @@ use Prim.Native.Nat.{ℕ}
 use mathlib.Core.Path.{sym}
 use borrow.Author.Needs.{needs}
 use lib.ListN.{length-replicate}
-use Rattle.order_edges.proofs.damaged.megabyte.Statement.{statement}
-use Rattle.order_edges.proofs.damaged.megabyte.Tie as tie
+use Rattle.order_edges.proofs.longest.megabyte.Statement.{statement}
+use Rattle.order_edges.proofs.longest.megabyte.Tie as tie
 
 slice-aggregate-reading : tie.Need-slice-aggregate-reading
 slice-aggregate-reading c = sym (length-replicate {0} {A = ℕ} 1048576 0)
