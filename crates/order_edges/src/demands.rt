@@ -1,28 +1,9 @@
-// A trace of uneven demands, and the list of demands that spreading has filled.
+// Demands printed: of a trace, and of the list that spreading has filled.
 use encoding::FillAnswer;
 use samples::demands::are_lent;
 use samples::file_bytes::summed;
 use samples::lists::ENTRIES;
 use samples::lists::at_most;
-ghost use mathlib.Core.Path.{_≡_};
-ghost use lib.ListN.{length};
-
-// As many periods as an order takes.
-pub const PERIODS: usize = 512;
-
-// Demands in no order, from 0 to the greatest. The length is promised so that the array can be lent.
-pub fn uneven() -> [u16; PERIODS]
-    ensures { λ r. ⌜ 512 ≡ length r ⌝ }
-{
-    let mut trace = [0u16; PERIODS];
-    for i in 0..PERIODS {
-        trace[i] = (i * 24_691 % 65_536) as u16;
-    }
-    trace[1] = 255;
-    trace[2] = 256;
-    trace[511] = 65_535;
-    trace
-}
 
 // How many demands there are, and the first.
 pub fn print_length(trace: &[u16]) {

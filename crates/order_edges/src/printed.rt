@@ -1,6 +1,6 @@
 // The printed case's order: written, shown byte by byte, read and spread.
 use crate::demands::print_demand;
-use damaged_files::reading;
+use crate::readings::reading;
 use order_file::spread;
 use order_file::trace_part;
 use order_file::write_order;

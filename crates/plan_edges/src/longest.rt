@@ -1,5 +1,5 @@
 // A plan of 512 periods and 512 buckets, written, read, and written again from what was read.
-use damaged_files::read_into;
+use crate::readings::read_into;
 use list_calls::read_on;
 use list_calls::write_on;
 use plan_file::LONGEST_PLAN;

@@ -1,5 +1,5 @@
 // The printed case's plan: written, shown byte by byte, and read.
-use damaged_files::read_into;
+use crate::readings::read_into;
 use list_calls::write_on;
 use plan_file::PlanFigures;
 use samples::file_bytes::FILE_ROOM;

@@ -10,11 +10,6 @@ use samples::file_bytes::checksum;
 use samples::file_bytes::is_lent;
 use samples::file_bytes::lent_front;
 
-// A text with bytes to spare.
-pub fn edge(name: &[u8], text: &[u8]) {
-    into(name, text, LENT_BYTES);
-}
-
 // A text written into so many bytes.
 pub fn into(name: &[u8], text: &[u8], lent: usize) {
     let mut bytes = [LENT; LENT_BYTES];

@@ -1,6 +1,8 @@
-// Every byte there is, right between two demands. Most are faults at their own place; what the
-// others give is printed.
+// Every byte there is, in one place of a text. Most are faults at their own place; what the others give
+// is printed.
 use crate::answers::print;
+use cases::PLAIN_ROOM;
+use cases::plain_text;
 use order_text::Cause;
 use order_text::Fault;
 use order_text::TextAnswer;
@@ -11,35 +13,20 @@ use samples::file_bytes::LENT;
 // How many bytes there are.
 const BYTES: u32 = 256;
 
-pub fn edges() {
+// The place: between two demands in the second line.
+const PLACE: usize = 15;
+
+pub fn each_byte(text: [u8; PLAIN_ROOM], length: usize) {
     for byte in 0..BYTES {
-        between(byte as u8);
+        between(text, length, byte as u8);
     }
 }
 
-fn between(byte: u8) {
-    let text = [
-        49,
-        32,
-        49,
-        32,
-        49,
-        32,
-        49,
-        32,
-        49,
-        32,
-        49,
-        32,
-        49,
-        10,
-        52,
-        byte,
-        56,
-        10,
-    ];
+fn between(text: [u8; PLAIN_ROOM], length: usize, byte: u8) {
+    let mut changed = text;
+    changed[PLACE] = byte;
     let mut file = [LENT; FILE_ROOM];
-    let answer = order_of_text(&text, &mut file);
+    let answer = order_of_text(plain_text(&changed, length), &mut file);
     if is_fault_there(answer) {
         return;
     }
@@ -59,7 +46,7 @@ fn is_fault_there(answer: TextAnswer) -> bool {
 fn is_there(fault: Fault) -> bool {
     let cause = fault.cause;
     match cause {
-        Cause::Byte => (fault.line == 2) & (fault.figure == 7) & (fault.place == 15),
+        Cause::Byte => (fault.line == 2) & (fault.figure == 7) & (fault.place == PLACE),
         _ => false,
     }
 }

@@ -1,5 +1,6 @@
-// Texts of 511, 512, 513 and more demands, a figure to a line.
-use crate::answers::edge;
+// Texts of many demands, a figure to a line.
+use crate::answers::into;
+use samples::file_bytes::LENT_BYTES;
 use samples::file_bytes::front;
 ghost use mathlib.Core.Path.{_≡_};
 ghost use lib.ListN.{length};
@@ -9,13 +10,10 @@ const FIGURES: usize = 600;
 // A digit and a newline for each.
 const TEXT_BYTES: usize = 1200;
 
-pub fn edges() {
+// The first bytes of such a text.
+pub fn first_bytes(name: &[u8], length: usize) {
     let text = lines();
-    edge(b"511 demands", front(&text, 1036));
-    edge(b"512 demands", front(&text, 1038));
-    edge(b"512 and no newline", front(&text, 1037));
-    edge(b"513 demands", front(&text, 1040));
-    edge(b"593 demands", &text);
+    into(name, front(&text, length), LENT_BYTES);
 }
 
 // The digits 0 to 9 over and over: the first seven are a tariff. The length is promised so that the

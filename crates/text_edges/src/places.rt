@@ -5,19 +5,8 @@ use order_text::word_around;
 use samples::file_bytes::FILE_ROOM;
 use samples::file_bytes::LENT;
 
-pub fn edges() {
-    words();
-    faults();
-}
-
-fn words() {
-    every_place(b"");
-    every_place(b" 12\t3#4\r5\n");
-    every_place(b"\xef\xbb\xbf12 3");
-}
-
 // The lengths of the words around all places of a text, and around some behind it.
-fn every_place(text: &[u8]) {
+pub fn every_place(text: &[u8]) {
     report::words(b"words of");
     lengths(text);
     length(text, text.len());
@@ -36,15 +25,8 @@ fn length(text: &[u8], place: usize) {
     report::number(word_around(text, place).len() as u64);
 }
 
-fn faults() {
-    fault(b"2 1 4x5 1");
-    fault(b"2 1\n1000000001 1");
-    fault(b"2 1 4 3 2# q");
-    fault(b"\xef\xbb\xbf2 two");
-    fault(b"2 1 4 \r\n");
-}
-
-fn fault(text: &[u8]) {
+// The place of a fault, and the word around it.
+pub fn fault(text: &[u8]) {
     let mut file = [LENT; FILE_ROOM];
     let TextAnswer::Faulty(fault) = order_of_text(text, &mut file) else {
         return;
