@@ -26,9 +26,9 @@ use samples::file_bytes::LENT_BYTES;
 use samples::file_bytes::front;
 use samples::file_bytes::is_lent;
 use samples::file_bytes::lent_front;
-use samples::lists::ENTRIES;
-use samples::lists::are_kept;
-use samples::lists::filled;
+use samples::lent_records::ENTRIES;
+use samples::lent_records::are_kept;
+use samples::lent_records::filled;
 
 // A case: an order of some tariff and trace, booked in some rooms.
 pub fn order_case(line: &[u8]) {
