@@ -3,9 +3,17 @@ use crate::recorded::print_runs;
 use crate::recorded::read_again;
 use crate::rooms::Rooms;
 use crate::rooms::print_rooms;
+use crate::rooms::rooms_of;
 use booking::Booking;
 use booking::BookingAnswer;
 use booking::MeterTotals;
+use cases::DEMANDS;
+use cases::demands;
+use cases::field;
+use cases::figure;
+use cases::file_of;
+use cases::tariff_of;
+use cases::trace;
 use list_calls::book_on;
 use order_file::write_order;
 use plan_file::PlanAnswer;
@@ -18,23 +26,31 @@ use samples::file_bytes::LENT_BYTES;
 use samples::file_bytes::front;
 use samples::file_bytes::is_lent;
 use samples::file_bytes::lent_front;
-use samples::lists::ENTRIES;
-use samples::lists::are_kept;
-use samples::lists::filled;
-use terms::Tariff;
+use samples::lent_records::ENTRIES;
+use samples::lent_records::are_kept;
+use samples::lent_records::filled;
 
-// An order of this tariff and trace, booked in these rooms.
-pub fn edge(name: &[u8], tariff: Tariff, trace: &[u16], rooms: Rooms) {
+// A case: an order of some tariff and trace, booked in some rooms.
+pub fn order_case(line: &[u8]) {
+    let mut room = [0u16; DEMANDS];
+    let count = trace(field(line, 4), &mut room);
     let mut file = [LENT; LENT_BYTES];
-    let answer = write_order(tariff, trace, &mut file);
-    edge_of(name, file, report::filled_of(answer), rooms);
+    let answer = write_order(tariff_of(field(line, 3)), demands(&room, count), &mut file);
+    named(line, front(&file, report::filled_of(answer)));
 }
 
-// The same of the first bytes of a file.
-pub fn edge_of(name: &[u8], file: [u8; LENT_BYTES], length: usize, rooms: Rooms) {
-    report::words(name);
+// A case: the first bytes of a file of some words.
+pub fn damaged_case(line: &[u8]) {
+    let file = file_of(field(line, 4));
+    named(line, front(&file, figure(field(line, 3), 0) as usize));
+}
+
+// The name and the rooms of a case, and what booking its order answers.
+fn named(line: &[u8], order: &[u8]) {
+    let rooms = rooms_of(field(line, 2));
+    report::words(field(line, 1));
     print_rooms(rooms);
-    book_in(front(&file, length), rooms);
+    book_in(order, rooms);
 }
 
 // The answer and what is kept; and of a booking the records and the meters.

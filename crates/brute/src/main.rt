@@ -1,6 +1,6 @@
 // The calls against plain runs and trials of every bucket, on every small case.
+mod cutting_records;
 mod cuttings;
-mod lists;
 mod meter_cases;
 mod runs;
 mod series_cases;

@@ -1,13 +1,13 @@
 // The series call against trials of every bucket in every cutting: a small case, its trace and tariff, and
 // whether the call answers and records as the plain search does.
+use crate::cutting_records::recorded;
 use crate::cuttings::Choice;
 use crate::cuttings::UNPRICED;
 use crate::cuttings::buckets_of;
 use crate::cuttings::preferred;
-use crate::lists::recorded;
 use list_calls::series_on;
-use samples::lists::are_same;
-use samples::lists::filled;
+use samples::lent_records::are_same;
+use samples::lent_records::filled;
 use samples::small::Small;
 use samples::small::demand;
 use samples::small::small_tariff;

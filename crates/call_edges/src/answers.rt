@@ -12,7 +12,7 @@ use cases::trace;
 use list_calls::series_on;
 use meter::meter_run;
 use meter::open_meter;
-use samples::lists::filled;
+use samples::lent_records::filled;
 use series::SeriesAnswer;
 use terms::Rate;
 use terms::Tariff;

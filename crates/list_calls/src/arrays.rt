@@ -9,7 +9,7 @@ use lent_plans::SeriesAnswer;
 use lent_plans::read_plan;
 use lent_plans::series;
 use lent_plans::write_plan;
-use samples::lists::ENTRIES;
+use samples::lent_records::ENTRIES;
 use terms::BucketRecord;
 use terms::Tariff;
 ghost use Prim.Native.Nat.{_≤_};

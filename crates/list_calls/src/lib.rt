@@ -12,8 +12,8 @@ use arrays::series_in;
 use arrays::write_in;
 use encoding::FillAnswer;
 use lent_plans::PlanFigures;
-use samples::lists::ENTRIES;
-use samples::lists::at_most;
+use samples::lent_records::ENTRIES;
+use samples::lent_records::at_most;
 use terms::BucketRecord;
 use terms::Tariff;
 

@@ -2,8 +2,8 @@
 use encoding::FillAnswer;
 use samples::demands::are_lent;
 use samples::file_bytes::summed;
-use samples::lists::ENTRIES;
-use samples::lists::at_most;
+use samples::lent_records::ENTRIES;
+use samples::lent_records::at_most;
 
 // How many demands there are, and the first.
 pub fn print_length(trace: &[u16]) {

@@ -17,7 +17,7 @@ use samples::file_bytes::LENT;
 use samples::file_bytes::LENT_BYTES;
 use samples::file_bytes::front;
 use samples::file_bytes::lent_front;
-use samples::lists::ENTRIES;
+use samples::lent_records::ENTRIES;
 use samples::tariffs::printed_case;
 use terms::Tariff;
 

@@ -4,7 +4,7 @@ use order_file::spread;
 use samples::demands::LENT_DEMAND;
 use samples::demands::lent_demands;
 use samples::file_bytes::front;
-use samples::lists::ENTRIES;
+use samples::lent_records::ENTRIES;
 ghost use mathlib.Core.Path.{_≡_};
 ghost use lib.ListN.{length};
 

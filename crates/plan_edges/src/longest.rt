@@ -9,9 +9,9 @@ use samples::file_bytes::LENT;
 use samples::file_bytes::LENT_BYTES;
 use samples::file_bytes::front;
 use samples::file_bytes::lent_front;
-use samples::lists::ENTRIES;
-use samples::lists::counted;
-use samples::lists::filled;
+use samples::lent_records::ENTRIES;
+use samples::lent_records::counted;
+use samples::lent_records::filled;
 use terms::BucketRecord;
 
 pub fn edges() {

@@ -5,8 +5,8 @@ use plan_file::PlanFigures;
 use samples::file_bytes::FILE_ROOM;
 use samples::file_bytes::LENT;
 use samples::file_bytes::front;
-use samples::lists::ENTRIES;
-use samples::lists::record_of;
+use samples::lent_records::ENTRIES;
+use samples::lent_records::record_of;
 
 pub fn case() {
     let plan = PlanFigures {

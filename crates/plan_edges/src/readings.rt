@@ -5,7 +5,7 @@ use cases::file_of;
 use list_calls::read_on;
 use plan_file::PlanAnswer;
 use samples::file_bytes::front;
-use samples::lists::filled;
+use samples::lent_records::filled;
 
 // A case: its name, and the first bytes of the file read.
 pub fn read_case(line: &[u8]) {

@@ -9,8 +9,8 @@ use plan_file::PlanFigures;
 use samples::file_bytes::LENT;
 use samples::file_bytes::LENT_BYTES;
 use samples::file_bytes::lent_front;
-use samples::lists::ENTRIES;
-use samples::lists::record_of;
+use samples::lent_records::ENTRIES;
+use samples::lent_records::record_of;
 use terms::BucketRecord;
 
 pub fn write_case(line: &[u8]) {

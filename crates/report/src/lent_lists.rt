@@ -1,8 +1,8 @@
 // The list of a plan's buckets.
 use crate::record;
 use crate::words;
-use samples::lists::ENTRIES;
-use samples::lists::are_kept;
+use samples::lent_records::ENTRIES;
+use samples::lent_records::are_kept;
 use terms::BucketRecord;
 
 // The buckets, and whether every record after them is as it was filled beforehand.

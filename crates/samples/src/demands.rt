@@ -1,5 +1,5 @@
 // The list of demands that a call is lent, compared afterwards.
-use crate::lists::ENTRIES;
+use crate::lent_records::ENTRIES;
 
 // What the entries of a lent list hold before a call.
 pub const LENT_DEMAND: u16 = 43_690;

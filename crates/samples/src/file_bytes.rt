@@ -1,48 +1,15 @@
-// Bytes of files: a number in a file changed, a checksum, and lent bytes that are compared after a
-// call.
-use crate::lists::at_most;
+// Bytes of files: a checksum, and lent bytes that are compared after a call.
+use crate::lent_records::at_most;
 use plan_file::LONGEST_PLAN;
-ghost use mathlib.Core.Path.{_≡_};
-ghost use lib.ListN.{length};
 
-// Words of 4 bytes for the printed case's order or plan, and some more.
-pub const WORDS: usize = 16;
-
-// The same in bytes.
-pub const FILE_ROOM: usize = 4 * WORDS;
+// Bytes for the printed case's order or plan, and some more.
+pub const FILE_ROOM: usize = 64;
 
 // Some more bytes than the longest file has, a plan of 512 buckets.
 pub const LENT_BYTES: usize = LONGEST_PLAN + 8;
 
-// As great as 4 bytes hold.
-pub const MOST: u32 = 4_294_967_295;
-
 // What lent bytes hold before a call.
 pub const LENT: u8 = 0xAA;
-
-// A file with another number at one word; the same file where it has no such word.
-pub fn with_word(words: [u32; WORDS], at: usize, value: u32) -> [u32; WORDS] {
-    let mut changed = words;
-    if at < WORDS {
-        changed[at] = value;
-    }
-    changed
-}
-
-// The bytes of the words, lowest first. The length is promised so that the array can be lent.
-pub fn bytes_of(words: [u32; WORDS]) -> [u8; FILE_ROOM]
-    ensures { λ r. ⌜ 64 ≡ length r ⌝ }
-{
-    let mut bytes = [0u8; FILE_ROOM];
-    for i in 0..WORDS {
-        let word = words[i];
-        bytes[4 * i] = (word % 256) as u8;
-        bytes[4 * i + 1] = (word / 256 % 256) as u8;
-        bytes[4 * i + 2] = (word / 65_536 % 256) as u8;
-        bytes[4 * i + 3] = (word / 16_777_216 % 256) as u8;
-    }
-    bytes
-}
 
 // The first bytes, or all where there are fewer.
 pub fn front(bytes: &[u8], length: usize) -> &[u8] {

@@ -2,7 +2,7 @@
 // them alone.
 pub mod demands;
 pub mod file_bytes;
-pub mod lists;
+pub mod lent_records;
 pub mod plain;
 pub mod small;
 pub mod tariffs;

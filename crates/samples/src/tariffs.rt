@@ -58,19 +58,9 @@ pub fn printed_case() -> Tariff {
     tariff_of(printed(), half(), full())
 }
 
-// The same with other prices and another fee.
-pub fn with_prices(rate: u32, depth: u32, fee: u32) -> Tariff {
-    tariff_of(prices_of(rate, depth, fee), half(), full())
-}
-
 // The same with another fee.
 pub fn with_fee(fee: u32) -> Tariff {
-    with_prices(2, 1, fee)
-}
-
-// The same with another factor.
-pub fn with_factor(p: u32, q: u32) -> Tariff {
-    tariff_of(printed(), Factor { p, q }, full())
+    tariff_of(prices_of(2, 1, fee), half(), full())
 }
 
 // The same with other caps.

@@ -1,7 +1,7 @@
 // Damaged orders: the printed case's with one byte changed, and with bytes missing or one too many.
-use crate::orders::bucket_of;
-use crate::orders::services;
-use crate::orders::sheet_in;
+use crate::service_texts::services;
+use crate::service_texts::sheet_in;
+use cases::bucket_of;
 use order_file::write_order;
 use samples::file_bytes::FILE_ROOM;
 use samples::file_bytes::LENT;
@@ -9,6 +9,7 @@ use samples::file_bytes::LENT_BYTES;
 use samples::file_bytes::front;
 use samples::tariffs::printed_case;
 use samples::traces::CASE;
+use terms::Bucket;
 ghost use Prim.Native.Nat.{_<_};
 
 // The bytes of the printed case's order.
@@ -19,7 +20,7 @@ pub fn edges() {
     let mut file = [LENT; FILE_ROOM];
     write_order(printed_case(), &trace, &mut file);
     each_byte(file);
-    each_length(file);
+    each_length(file, bucket_of(b"5 3"));
 }
 
 // Each byte one higher and one lower; 255 and 0 are neighbours.
@@ -42,10 +43,10 @@ fn raised(file: [u8; FILE_ROOM], at: usize, byte: u8, by: u8)
 }
 
 // All three services; where the order is refused, room or none makes no difference.
-fn each_length(file: [u8; FILE_ROOM]) {
+fn each_length(file: [u8; FILE_ROOM], bucket: Bucket) {
     for length in 0..56 {
         report::figure(b"bytes", length as u64);
         report::end_line();
-        services(front(&file, length), bucket_of(5, 3), length);
+        services(front(&file, length), bucket, length);
     }
 }

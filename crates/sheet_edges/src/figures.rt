@@ -1,44 +1,34 @@
 // Figures in megabits, each in a text one byte too short, just long enough and longer.
-use crate::orders::print;
+use crate::service_texts::print;
+use cases::field;
+use cases::figure;
+use cases::first;
+use cases::number;
 use samples::file_bytes::LENT;
 use samples::file_bytes::LENT_BYTES;
 use samples::file_bytes::lent_front;
 use text::megabits;
 
-// Figures beside the one that gets a whole part, of each sign, and those of the greatest length.
-pub fn edges() {
-    around(0, 4);
-    around(1, 4);
-    around(-1, 5);
-    around(10, 4);
-    around(-99, 5);
-    around(100, 4);
-    around(499, 4);
-    around(500, 4);
-    around(-500, 5);
-    around(999, 4);
-    around(-999, 5);
-    around(1000, 4);
-    around(-1000, 5);
-    around(1001, 4);
-    around(-1500, 5);
-    around(1500, 4);
-    around(9999, 4);
-    around(10_000, 5);
-    around(65_535, 5);
-    around(-65_535, 6);
-    around(1_000_000, 7);
-    around(-33_553_920, 9);
-    around(9_223_372_036_854_775_807, 19);
-    around(-9_223_372_036_854_775_807, 20);
-    around(-9_223_372_036_854_775_808, 20);
+// The digits of a case behind its sign, and the room of a text that is one byte too short for the figure.
+pub fn figure_case(line: &[u8]) {
+    let short = figure(field(line, 2), 0) as usize;
+    let figure = signed(field(line, 1));
+    figure_in(figure, short);
+    figure_in(figure, short + 1);
+    figure_in(figure, short + 2);
 }
 
-// A figure, and the room of a text that is one byte too short for it.
-fn around(figure: i64, short: u8) {
-    figure_in(figure, short as usize);
-    figure_in(figure, short as usize + 1);
-    figure_in(figure, short as usize + 2);
+// A word as a signed number.
+fn signed(word: &[u8]) -> i64 {
+    let n = number(word);
+    if first(word) != b'-' {
+        return (n % 9_223_372_036_854_775_808) as i64;
+    }
+    if n == 0 {
+        return 0;
+    }
+    // minus n is n − 1 with every bit changed
+    !(((n - 1) % 9_223_372_036_854_775_808) as i64)
 }
 
 fn figure_in(figure: i64, room: usize) {

@@ -1,46 +1,48 @@
-// Orders of 512 periods, and the file of 513.
-use crate::orders::bucket_of;
-use crate::orders::services;
+// An order of 512 periods where each has its own bucket, and the file of 513.
+use crate::service_texts::services;
+use cases::DEMANDS;
+use cases::bucket_of;
+use cases::demands;
+use cases::tariff_of;
+use cases::trace;
 use order_file::LONGEST_ORDER;
 use order_file::write_order;
 use samples::file_bytes::LENT;
 use samples::file_bytes::LENT_BYTES;
 use samples::file_bytes::front;
-use samples::tariffs::full;
-use samples::tariffs::prices_of;
-use samples::tariffs::tariff_of;
 use samples::tariffs::with_fee;
-use samples::traces::feature;
 use sheets::LONGEST_SHEET;
-use terms::Factor;
-
-// The bytes of the sheet for the feature.
-const FEATURE_SHEET: usize = 637;
+use terms::Tariff;
 
 pub fn edges() {
-    feature_rooms();
+    longer();
     widest();
 }
 
-// A text one byte too short and one just long enough; then 513 periods, right but for that.
-fn feature_rooms() {
-    let trace = feature();
-    let tariff = tariff_of(prices_of(20, 1, 1_000_000), Factor { p: 2, q: 3 }, full());
+// The order's bytes with these prices, the feature being the trace.
+fn feature_order(tariff: Tariff) -> [u8; LENT_BYTES] {
+    let mut room = [0u16; DEMANDS];
+    let count = trace(b"feature", &mut room);
     let mut file = [LENT; LENT_BYTES];
-    write_order(tariff, &trace, &mut file);
-    let bucket = bucket_of(4095, 1000);
-    services(front(&file, LONGEST_ORDER), bucket, FEATURE_SHEET - 1);
-    services(front(&file, LONGEST_ORDER), bucket, FEATURE_SHEET);
+    write_order(tariff, demands(&room, count), &mut file);
+    file
+}
+
+// A file for 513 periods, right but for that.
+fn longer() {
+    let mut file = feature_order(tariff_of(b"20 1 1000000 2 3 4095 1000000"));
     file[4] = 1;
     file[16] = 50;
-    services(front(&file, LONGEST_ORDER + 2), bucket, LENT_BYTES);
+    services(
+        front(&file, LONGEST_ORDER + 2),
+        bucket_of(b"4095 1000"),
+        LENT_BYTES,
+    );
 }
 
 // Each period has its own bucket, and the sheet needs more room than the other texts have.
 fn widest() {
-    let trace = feature();
-    let mut file = [LENT; LENT_BYTES];
-    write_order(with_fee(0), &trace, &mut file);
+    let file = feature_order(with_fee(0));
     let mut text = [0u8; LONGEST_SHEET];
     let answer = sheets::sheet(front(&file, LONGEST_ORDER), &mut text);
     report::words(b"widest:");

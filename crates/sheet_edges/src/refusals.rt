@@ -1,5 +1,5 @@
 // The line of every refusal, in a text one byte too short, just long enough and longer.
-use crate::orders::print;
+use crate::service_texts::print;
 use samples::file_bytes::LENT;
 use samples::file_bytes::LENT_BYTES;
 use samples::file_bytes::lent_front;

@@ -1,13 +1,15 @@
 // Small orders by a simple rule: one to five demands of 0 to 7, a tariff with small caps, and a
 // bucket for the trial.
-use crate::orders::bucket_of;
-use crate::orders::services_of;
+use crate::service_texts::services_of;
 use samples::demands::part_of;
 use samples::file_bytes::LENT_BYTES;
 use samples::tariffs::caps_of;
 use samples::tariffs::prices_of;
 use samples::tariffs::tariff_of;
+use terms::Bucket;
+use terms::Depth;
 use terms::Factor;
+use terms::Rate;
 use terms::Tariff;
 
 const ORDERS: u32 = 300;
@@ -37,7 +39,11 @@ fn order(n: u32) {
     report::figure(b"order", n as u64);
     report::tariff(tariff);
     print_demands(trace);
-    services_of(tariff, trace, bucket_of(n / 5 % 7, n % 8), LENT_BYTES);
+    let bucket = Bucket {
+        rate: Rate(n / 5 % 7),
+        depth: Depth(n % 8),
+    };
+    services_of(tariff, trace, bucket, LENT_BYTES);
 }
 
 // The number after another in a row that comes back to it after 65,536 steps.

@@ -5,10 +5,10 @@ use Rattle.sheet_edges.proofs.damaged.each_length.Statement.{statement}
 use Rattle.sheet_edges.proofs.damaged.each_length.Tie as tie
 
 abbrev Inv-loop : tie.InvT-loop
-Inv-loop file length₀ t4 length = length ≤ 56
+Inv-loop bucket file length₀ t5 length = length ≤ 56
 
 abbrev μ-loop : tie.MeasureT-loop
-μ-loop file length₀ t4 length = 56 - length
+μ-loop bucket file length₀ t5 length = 56 - length
 
 pub each-length-spec : {M : Type 1} → statement M
 each-length-spec =
@@ -21,7 +21,6 @@ each-length-spec =
     (λ c κs. search needs)
     (λ c κs. search needs)
     (λ c. search needs)
-    (λ c κs. search needs)
     (λ c κs. search needs)
     (λ c κs. search needs)
     (λ c. search needs)

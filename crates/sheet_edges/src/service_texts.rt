@@ -1,4 +1,11 @@
 // One order: what each of the three services writes of it into a text with so much room.
+use cases::DEMANDS;
+use cases::bucket_of;
+use cases::demands;
+use cases::field;
+use cases::figure;
+use cases::tariff_of;
+use cases::trace;
 use encoding::FillAnswer;
 use order_file::write_order;
 use samples::file_bytes::LENT;
@@ -7,9 +14,24 @@ use samples::file_bytes::front;
 use samples::file_bytes::is_lent;
 use samples::file_bytes::lent_front;
 use terms::Bucket;
-use terms::Depth;
-use terms::Rate;
 use terms::Tariff;
+
+// A case: its name in a line of its own, where it has one, and the texts.
+pub fn services_case(line: &[u8]) {
+    let mut room = [0u16; DEMANDS];
+    let count = trace(field(line, 3), &mut room);
+    let name = field(line, 1);
+    if 0 < name.len() {
+        report::words(name);
+        report::end_line();
+    }
+    services_of(
+        tariff_of(field(line, 2)),
+        demands(&room, count),
+        bucket_of(field(line, 4)),
+        figure(field(line, 5), 0) as usize,
+    );
+}
 
 // An order of this tariff and trace in all three, the bucket being for the trial.
 pub fn services_of(tariff: Tariff, trace: &[u16], bucket: Bucket, room: usize) {
@@ -55,11 +77,4 @@ pub fn print(answer: FillAnswer, text: &[u8; LENT_BYTES]) {
     report::fill(answer);
     report::kept(is_lent(text, length));
     report::words(front(text, length));
-}
-
-pub fn bucket_of(rate: u32, depth: u32) -> Bucket {
-    Bucket {
-        rate: Rate(rate),
-        depth: Depth(depth),
-    }
 }

@@ -1,9 +1,9 @@
 // The list that a call is lent: what a cutting records in it.
 use crate::cuttings::Cutting;
 use crate::runs::of_run;
-use samples::lists::ENTRIES;
-use samples::lists::filled;
-use samples::lists::record_of;
+use samples::lent_records::ENTRIES;
+use samples::lent_records::filled;
+use samples::lent_records::record_of;
 use samples::plain::Best;
 use samples::small::Small;
 use terms::BucketRecord;

@@ -3,8 +3,8 @@ use Prim.Native.Nat.{_-_, _≤_}
 use mathlib.Core.Path.{_≡_}
 use lib.ListN.{length}
 use borrow.Author.Needs.{needs}
-use Rattle.samples.proofs.lists.counted.Statement.{statement}
-use Rattle.samples.proofs.lists.counted.Tie as tie
+use Rattle.samples.proofs.lent_records.counted.Statement.{statement}
+use Rattle.samples.proofs.lent_records.counted.Tie as tie
 
 abbrev Inv-loop : tie.InvT-loop
 Inv-loop periods alike rate depth list₀ i₀ list i = (i ≤ 516) × (516 ≡ length list)

@@ -1,8 +1,8 @@
 -- Each record from the start on is compared at most once.
 use Prim.Native.Nat.{_-_, _≤_}
 use borrow.Author.Needs.{needs}
-use Rattle.samples.proofs.lists.are_same.Statement.{statement}
-use Rattle.samples.proofs.lists.are_same.Tie as tie
+use Rattle.samples.proofs.lent_records.are_same.Statement.{statement}
+use Rattle.samples.proofs.lent_records.are_same.Tie as tie
 
 abbrev Inv-loop : tie.InvT-loop
 Inv-loop start a b i₀ i = start ≤ i
