@@ -1,7 +1,7 @@
 // Orders around the longest, and a file of a megabyte.
-use crate::orders::cut;
-use crate::orders::written;
 use crate::readings::reading;
+use crate::written::cut;
+use crate::written::written;
 use cases::DEMANDS;
 use cases::demands;
 use cases::trace;

@@ -3,10 +3,10 @@
 // says its form; before them comes the printed order byte by byte, and after them files around the longest.
 mod demands;
 mod longest;
-mod orders;
 mod printed;
 mod readings;
 mod spreads;
+mod written;
 
 use cases::field;
 use cases::figure;
@@ -33,8 +33,8 @@ fn each_case(input: &[u8]) {
 fn case(line: &[u8]) {
     match first(line) {
         b'r' => readings::read_case(line),
-        b'w' => orders::write_case(line),
-        b'f' => orders::file_case(line),
+        b'w' => written::write_case(line),
+        b'f' => written::file_case(line),
         b's' => spreads::edge(entries(field(line, 1)), entries(field(line, 2))),
         _ => {}
     }
