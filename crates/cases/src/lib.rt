@@ -15,7 +15,6 @@ pub use files::file_of;
 pub use numbers::figure;
 pub use numbers::large;
 pub use numbers::number;
-pub use numbers::small;
 pub use orders::bucket_of;
 pub use orders::factor_of;
 pub use orders::tariff_of;
