@@ -1,5 +1,5 @@
-// Text with escapes: \n, \r, \t, and \x with two digits in lower case, for a byte by its number; a
-// backslash before any other byte, as in \\ and \|, stands for that byte.
+// Text with escapes: \n, \r, \t, and \x with two digits in lower case, for a byte by its number, as \x7c for
+// a bar; a backslash before any other byte, as in \\, stands for that byte.
 ghost use Prim.Native.Nat.{_≤_};
 
 // As long as a text may be.

@@ -15,7 +15,6 @@ pub use files::file_of;
 pub use numbers::figure;
 pub use numbers::large;
 pub use numbers::number;
-pub use numbers::small;
 pub use parts::field;
 pub use parts::first;
 pub use parts::line;

@@ -62,13 +62,3 @@ pub fn printed_case() -> Tariff {
 pub fn with_fee(fee: u32) -> Tariff {
     tariff_of(prices_of(2, 1, fee), half(), full())
 }
-
-// The same with other caps.
-pub fn with_caps(rate: u32, depth: u32) -> Tariff {
-    tariff_of(printed(), half(), caps_of(rate, depth))
-}
-
-// The printed case's prices with some fee, a factor that starts buckets empty, and caps 5 and 10.
-pub fn from_empty(fee: u32) -> Tariff {
-    tariff_of(prices_of(2, 1, fee), Factor { p: 0, q: 1 }, caps_of(5, 10))
-}
