@@ -26,6 +26,7 @@ fn case(line: &[u8]) {
     match first(line) {
         b'o' => edge::order_case(line),
         b'd' => edge::damaged_case(line),
-        _ => {}
+        b'#' => {}
+        _ => report::words(b"no such case\n"),
     }
 }

@@ -36,7 +36,8 @@ fn answer(kind: u8, figures: &[u8], trace: &[u16], last: u32) {
         b'r' => print_meter(meter_run(bucket_of(figures), factor_of(figures), trace)),
         b'd' => report::depth(depth::depth_at(trace, Rate(last), tariff_of(figures))),
         b'b' => report::single(single::single(trace, tariff_of(figures))),
-        _ => series(trace, tariff_of(figures), last as usize),
+        b's' => series(trace, tariff_of(figures), last as usize),
+        _ => report::words(b" no such case\n"),
     }
 }
 

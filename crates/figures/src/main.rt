@@ -54,7 +54,8 @@ fn answer(kind: u8, figures: &[u8], trace: &[u16], rate: Rate) {
         b'd' => report::depth(metqoraz::depth_at(trace, rate, tariff_of(figures))),
         b'b' => report::single(metqoraz::single(trace, tariff_of(figures))),
         b't' => report::trial(metqoraz::trial(bucket_of(figures), factor_of(figures), trace)),
-        _ => print_series(trace, tariff_of(figures)),
+        b's' => print_series(trace, tariff_of(figures)),
+        _ => report::words(b": no such case\n"),
     }
 }
 

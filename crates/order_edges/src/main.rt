@@ -36,7 +36,8 @@ fn case(line: &[u8]) {
         b'w' => written::write_case(line),
         b'f' => written::file_case(line),
         b's' => spreads::edge(entries(field(line, 1)), entries(field(line, 2))),
-        _ => {}
+        b'#' => {}
+        _ => report::words(b"no such case\n"),
     }
 }
 

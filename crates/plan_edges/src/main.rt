@@ -31,7 +31,8 @@ fn case(line: &[u8]) {
     match first(line) {
         b'r' => readings::read_case(line),
         b'w' => writing::write_case(line),
-        _ => {}
+        b'#' => {}
+        _ => report::words(b"no such case\n"),
     }
 }
 

@@ -33,6 +33,7 @@ fn case(line: &[u8]) {
     match first(line) {
         b'f' => figures::figure_case(line),
         b's' => service_texts::services_case(line),
-        _ => {}
+        b'#' => {}
+        _ => report::words(b"no such case\n"),
     }
 }

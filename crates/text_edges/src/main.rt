@@ -45,7 +45,8 @@ fn case(line: &[u8]) {
         b'b' => bytes::each_byte(typed, length),
         b'd' => counts::first_bytes(text, room(field(line, 2))),
         b'w' => words::print_number(text),
-        _ => {}
+        b'#' => {}
+        _ => report::words(b"no such case\n"),
     }
 }
 
