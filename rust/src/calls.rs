@@ -281,9 +281,9 @@ pub fn plan(file: &[u8]) -> Answer<Plan> {
     Ok(Plan { periods: figures.periods, cost, records: records.take(figures.buckets as usize).collect() })
 }
 
-/// Checks a plan file, whoever made it, for an order: whether each bucket carries its run, no rate and no depth is above
-/// its cap, and the cost stated is the true one. With a yes it puts what that cost is above the least into the number
-/// lent; with a no the number keeps its value.
+/// Checks a plan file for an order, whoever made it: whether each bucket carries its run, no rate and no depth is
+/// above its cap, and the cost stated is the true one. With a yes it puts what that cost is above the least into the
+/// number lent; with a no the number keeps its value.
 pub fn check_into(order: &[u8], plan: &[u8], excess: &mut u64) -> Answer<bool> {
     // SAFETY: as in `order_into`.
     let code = unsafe { metqoraz_check(order.as_ptr(), order.len(), plan.as_ptr(), plan.len(), excess) };

@@ -16,7 +16,8 @@ pub enum Verdict {
     No,
 }
 
-/// The check of a plan file for an order file: the order's refusal, then the plan's, then 10 where their periods differ.
+/// The check of a plan file for an order file: the order's refusal, then the plan's, then 10 where the numbers of
+/// periods differ.
 pub fn check(order: &[u8], plan: &[u8]) -> Answer<Verdict> {
     check_with(order, plan, series_plain)
 }
