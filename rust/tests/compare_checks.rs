@@ -185,24 +185,24 @@ fn own_plans_get_a_yes_and_an_excess_of_0() {
 #[test]
 fn small_checks_are_those_found_by_trying() {
     let tally = Tally::default();
-    for_seeds(5_200_000, 60_000, |seed| {
+    for_seeds(5_200_000, 90_000, |seed| {
         let order = small_order(7, seed);
         let (file, plan) = (file_of(&order), any_plan(&order, seed));
         let tried = check_by_trying(&file, &plan);
         same(&check(&file, &plan), &tried);
         tally.meet(compare_to(tried, &file, &plan, seed));
     });
-    tally.expect(&[&VERDICTS[..], &[Refused(5)]].concat(), 500);
+    tally.expect(&[&VERDICTS[..], &[Refused(5)]].concat(), 2_000);
 }
 
 #[test]
 fn checks_are_alike() {
     let tally = Tally::default();
-    for_seeds(5_300_000, 12_000, |seed| {
+    for_seeds(5_300_000, 40_000, |seed| {
         let order = any_order(16, seed);
         tally.meet(compare(&file_of(&order), &any_plan(&order, seed), seed));
     });
-    tally.expect(&[&VERDICTS[..], &[Refused(5)]].concat(), 100);
+    tally.expect(&[&VERDICTS[..], &[Refused(5)]].concat(), 500);
 }
 
 /// Some plans for each order; the least cost is found once.
@@ -224,7 +224,7 @@ fn checks_of_some_length_are_alike() {
         let periods = seed.between(100, 512) as usize;
         compare_plans(&(tariff, trace(seed.pick(SHAPES), periods, seed)), 20, &tally, seed);
     });
-    tally.expect(&[&VERDICTS[..], &[Refused(5)]].concat(), 10);
+    tally.expect(&[&VERDICTS[..], &[Refused(5)]].concat(), 20);
 }
 
 /// Orders of 512 periods with full caps, where the plain programme takes a second or more.
@@ -233,9 +233,10 @@ fn the_longest_checks_are_alike() {
     let tally = Tally::default();
     for_seeds(5_410_000, 4, |seed| {
         let tariff = Tariff { rate_cap: RATE_MAX, depth_cap: DEPTH_MAX, ..random_tariff(seed) };
-        compare_plans(&(tariff, trace(seed.pick(SHAPES), 512, seed)), 20, &tally, seed);
+        let shape = seed.pick([Shape::Feature, Shape::Noise, Shape::Steps, Shape::Spiky]);
+        compare_plans(&(tariff, trace(shape, 512, seed)), 20, &tally, seed);
     });
-    tally.expect(&[Least, Dearer, NotCarried, FalseCost, Refused(5)], 1);
+    tally.expect(&[Least, Dearer, NotCarried, FalseCost, SeveralFaults, Refused(5)], 2);
 }
 
 /// Plans that carry an order which has no plan inside its caps.
@@ -252,7 +253,7 @@ fn an_order_without_a_plan_gets_a_no() {
         tally.meet(compare(&file, &plan_file(&honest(&demands, &wide, seed)), seed));
         tally.meet(compare(&file, &plan_file(&honest(&demands, &tariff, seed)), seed));
     });
-    tally.expect(&[NotCarried, RateAboveCap, DepthAboveCap, SeveralFaults], 5_000);
+    tally.expect(&[NotCarried, RateAboveCap, DepthAboveCap, SeveralFaults], 1_000);
 }
 
 /// Every plan for an order of 1 to 3 periods, with rates and depths up to one above the caps.
@@ -274,7 +275,7 @@ fn every_plan(periods: u32, tariff: &Tariff) -> Vec<Vec<Record>> {
 #[test]
 fn every_plan_of_a_small_order_is_checked_alike() {
     let tally = Tally::default();
-    for_seeds(5_600_000, 100, |seed| {
+    for_seeds(5_600_000, 1_000, |seed| {
         let (tariff, demands) = small_order(3, seed);
         let tariff = Tariff { rate_cap: seed.between(0, 2), depth_cap: seed.between(0, 2), ..tariff };
         let demands: Vec<u16> = demands.iter().map(|demand| demand % 4).collect();
@@ -290,7 +291,7 @@ fn every_plan_of_a_small_order_is_checked_alike() {
             tally.meet(compare_to(right, &file, &plan_file(plan), seed));
         }
     });
-    tally.expect(&[Least, Dearer, NotCarried, RateAboveCap, DepthAboveCap, SeveralFaults], 100);
+    tally.expect(&[Least, Dearer, NotCarried, RateAboveCap, DepthAboveCap, SeveralFaults], 500);
 }
 
 /// A plan for an order, where one of the files, or each of them, is damaged.
