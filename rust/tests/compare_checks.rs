@@ -4,7 +4,7 @@
 mod shared;
 
 use metqoraz::calls;
-use metqoraz::inputs::{damaged, random_tariff, trace, Seed, Shape, SHAPES};
+use metqoraz::inputs::{damaged, random_tariff, small_tariff, trace, Seed, Shape, SHAPES};
 use metqoraz::paper::check::{
     carries_runs, check, check_by_trying, check_line, check_with, keeps_caps, true_cost, Verdict,
 };
@@ -282,11 +282,10 @@ fn every_plan_of_a_small_order_is_checked_alike() {
         let file = file_of(&(tariff, demands.clone()));
         let plans = every_plan(demands.len() as u32, &tariff).into_iter().map(|records| priced(records, &tariff));
         let plans: Vec<Plan> = plans.collect();
-        let held = plans.iter().filter(|plan| carries_runs(plan, &tariff, &demands) && keeps_caps(plan, &tariff));
-        let least = held.map(|plan| plan.cost).min();
+        let holds = |plan: &&Plan| carries_runs(plan, &tariff, &demands) && keeps_caps(plan, &tariff);
+        let least = plans.iter().filter(holds).map(|plan| plan.cost).min();
         for plan in &plans {
-            let holds = carries_runs(plan, &tariff, &demands) && keeps_caps(plan, &tariff);
-            let above = least.filter(|_| holds).map(|least| plan.cost - least);
+            let above = least.filter(|_| holds(&plan)).map(|least| plan.cost - least);
             let right = Ok(above.map_or(Verdict::No, Verdict::Yes));
             tally.meet(compare_to(right, &file, &plan_file(plan), seed));
         }
@@ -313,7 +312,7 @@ fn damaged_files_are_checked_alike() {
     tally.expect(&[&VERDICTS[..], &READING].concat(), 100);
 }
 
-/// Orders and plans of different numbers of periods, as often damaged as not: 10 comes after all that reading refuses.
+/// Orders and plans of different numbers of periods, whole and damaged: 10 comes after all that reading refuses.
 #[test]
 fn other_numbers_of_periods_are_refused_alike() {
     let tally = Tally::default();
@@ -402,13 +401,15 @@ fn the_program_prints_alike() {
 #[test]
 fn the_program_takes_the_longest_files() {
     for_seeds(5_930_000, 20, |seed| {
-        let (tariff, _) = small_order(1, seed);
+        let tariff = Tariff { rate_cap: 9, ..small_tariff(seed) };
         let demands = trace(Shape::Tiny, 512, seed);
         let plan = honest_in(vec![1; 512], &demands, &tariff, seed);
         let mut input = [file_of(&(tariff, demands)), plan_file(&plan)].concat();
-        for more in [0, 1, 5_000] {
+        for (more, answer) in [(0, "yes "), (1, "refused 4"), (5_000, "refused 4")] {
             input.resize(input.len() + more, 0);
-            same(&printed(&input), &check_line(&input));
+            let line = printed(&input);
+            assert!(line.starts_with(answer), "{line}");
+            same(&line, &check_line(&input));
         }
     });
 }
