@@ -7,7 +7,7 @@ use native.Mathlib.Numerals.{add-one}
 use mathlib.Core.Path.{_≡_, refl, sym, ap, ap₂, subst, _∙_}
 use mathlib.Core.List.{List, [], _∷_, _++_, append-assoc}
 use lib.ListN.{length, take, drop, getD, length-append, length-drop}
-use lib.Seq.{take-at, drop-append-seam, take-add, drop-cons, drop-drop, getD-drop}
+use lib.Seq.{take-at, drop-append-le, drop-append-seam, take-add, take-append-le, drop-cons, drop-drop, getD-drop}
 use Rattle.terms.specs.Records.{Each}
 use Rattle.encoding.specs.Number.{bytesOf, valueOf, numberAt, bytesOfAll, itemsAt}
 
@@ -67,6 +67,12 @@ number-written w n before after l =
 
 pub number-read : (w : ℕ) (bs : List ℕ) (at : ℕ) → Bytes bs → at + w ≤ length bs → bytesOf w (numberAt w bs at) ≡ take w (drop at bs)
 number-read w bs at h l = bytes-value w (drop at bs) (fit-drop bs at h) (omega (arith, length-drop at bs))
+
+-- A number inside the front of some bytes, whatever follows.
+pub number-front : (w : ℕ) (bs more : List ℕ) (at : ℕ) → at + w ≤ length bs → numberAt w (bs ++ more) at ≡ numberAt w bs at
+number-front w bs more at l =
+    ap (λ (ys : List ℕ). valueOf (take w ys)) (drop-append-le at bs more (omega (arith, l)))
+    ∙ ap valueOf (take-append-le w (drop at bs) more (omega (arith, l, length-drop at bs)))
 
 -- A number by its first byte and the rest.
 pub number-next : (w : ℕ) (bs : List ℕ) (at : ℕ) → at < length bs → numberAt (suc w) bs at ≡ getD bs at 0 + 256 * numberAt w bs (at + 1)

@@ -17,6 +17,7 @@ use Rattle.order_file.specs.Order.{writeOrder}
 use Rattle.plan_file.specs.Plan.{Recorded, planFile, readPlan}
 use Rattle.planning.specs.Planning.{planned}
 use Rattle.booking.specs.Booking.{planFigures}
+use Rattle.checking.specs.Check.{Verdict, yes, no}
 use Rattle.typed_figures.specs.Figures.{tariffFigures, tariffOf}
 use Rattle.exports.specs.Lists.{RecordLists, roomOf}
 
@@ -61,6 +62,19 @@ planFileIn room bs = andThen (planned traceLimit traceLimit bs) (λ x. planFile 
 -- than buckets.
 abbrev pub readIn : List ℕ → RecordLists → Answer Recorded
 readIn bs l = readPlan (roomOf (l .runs) (l .rates) (l .depths)) bs
+
+-- ---- Checks
+
+-- A verdict as a number: 1 for yes, 0 for no (02, job 1).
+abbrev pub verdictCode : Verdict → ℕ
+verdictCode (yes excess) = 1
+verdictCode no = 0
+
+-- What a lent number holds after a check: with a yes the excess, else what it held.
+abbrev pub excessOr : Answer Verdict → ℕ → ℕ
+excessOr (figures (yes excess)) old = excess
+excessOr (figures no) old = old
+excessOr (refused n) old = old
 
 -- ---- Meters
 

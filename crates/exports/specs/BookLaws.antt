@@ -1,15 +1,17 @@
 -- The plan file that is booked here is the one that the whole list of demand 3's calls leaves, with lists of 512
--- entries: being read back and metered it meets no refusal.
+-- entries: being read back and metered it meets no refusal. A check gives it a yes and an excess of 0.
 -- Assumes nothing.
 use Prim.Native.Nat.{ℕ}
 use mathlib.Core.Path.{_≡_, refl, sym, ap, _∙_}
 use mathlib.Core.List.{List}
 use lib.ListN.{length}
 use Rattle.terms.specs.Answer.{Answer, figures, refused, onFigures}
-use Rattle.terms.specs.AnswerLaws.{then-figures, then-refused}
+use Rattle.terms.specs.AnswerLaws.{then-figures, then-found, then-refused}
 use Rattle.terms.specs.Limits.{traceLimit}
 use Rattle.encoding.specs.NumberLaws.{Bytes}
 use Rattle.plan_file.specs.Plan.{planFile}
+use Rattle.plan_file.specs.PlanLaws.{file-read}
+use Rattle.plan_file.specs.PlanRules.{read-holds}
 use Rattle.planning.specs.Planning.{Planned, planned}
 use Rattle.planning.specs.PlannedLaws.{is-planned}
 use Rattle.recording.specs.Recording.{Recording, readBack}
@@ -17,6 +19,8 @@ use Rattle.booking.specs.Booking.{Lent, Steps, booked, planFigures}
 use Rattle.booking.specs.CallLaws.{Sizes, sizes, sizesOf, bookedIn, fileIn, recordingIn, writtenIn}
 use Rattle.booking.specs.ClaimLaws.{booked-sizes}
 use Rattle.booking.specs.StepLaws.{planned-short, steps-figures, written-is}
+use Rattle.checking.specs.Check.{yes, checkOf}
+use Rattle.checking.specs.OwnLaws.{planned-yes}
 use Rattle.exports.specs.Answers.{planFileIn}
 
 -- The file alone.
@@ -65,3 +69,12 @@ pub booked-file : (bs : List ℕ) → Bytes bs → (lent : Lent) → Spacious le
 booked-file bs h lent s =
     let e : sizesOf lent ≡ sizes traceLimit traceLimit (length (lent .bytes)) traceLimit = rw (s .demands, s .plan, s .back) refl in
     ap fileAnswered (booked-sizes lent bs ∙ ap (λ (x : Sizes). bookedIn x bs) e) ∙ booked-in bs h (length (lent .bytes))
+
+-- So a check gives it a yes and an excess of 0.
+pub file-yes : (room : ℕ) (bs file : List ℕ) → planFileIn room bs ≡ figures file → checkOf bs file ≡ figures (yes 0)
+file-yes room bs file e =
+    let a = then-found (planned traceLimit traceLimit bs) (λ x. planFile traceLimit room (planFigures x) (x .cutting)) e in
+    let x = a .0 in
+    let is = is-planned traceLimit traceLimit bs x (a .1) in
+    let few = planned-short bs traceLimit traceLimit x is .1 in
+    planned-yes is file (read-holds traceLimit file _ (file-read traceLimit room (planFigures x) (x .cutting) file refl (a .2) traceLimit few))

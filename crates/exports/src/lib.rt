@@ -3,6 +3,7 @@
 // include/metqoraz.h and rust/src/calls.rs declare them.
 mod answers;
 mod buckets;
+mod checks;
 mod figure_lists;
 mod meters;
 mod orders;
@@ -13,6 +14,7 @@ pub use answers::REFUSED;
 pub use buckets::metqoraz_depth;
 pub use buckets::metqoraz_single;
 pub use buckets::metqoraz_trial;
+pub use checks::metqoraz_check;
 pub use meters::metqoraz_meter;
 pub use orders::metqoraz_order;
 pub use plans::metqoraz_book;

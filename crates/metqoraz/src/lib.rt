@@ -52,6 +52,7 @@ pub use lent_plans::write_plan;
 pub use order_file::LONGEST_ORDER;
 pub use order_file::Order;
 pub use order_file::OrderAnswer;
+pub use order_file::order_end;
 pub use order_file::read_order;
 pub use order_file::spread;
 pub use order_file::trace_part;
@@ -63,6 +64,13 @@ pub use booking::Booking;
 pub use booking::BookingAnswer;
 pub use booking::MeterTotals;
 pub use booking::book;
+
+// A plan from any planning house checked against an order, as an answer and as a line.
+pub use checking::CheckAnswer;
+pub use checking::LONGEST_VERDICT;
+pub use checking::check;
+pub use checking::check_files;
+pub use checking::check_line;
 
 // Texts: the services from an order file, a figure in megabits, a refusal; and room for the longest.
 pub use services::LONGEST_SINGLE;
@@ -89,6 +97,7 @@ pub use typed_figures::number_of;
 
 // For programs in C and Rust, on numbers and slices.
 pub use exports::metqoraz_book;
+pub use exports::metqoraz_check;
 pub use exports::metqoraz_depth;
 pub use exports::metqoraz_meter;
 pub use exports::metqoraz_order;

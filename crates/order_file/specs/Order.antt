@@ -1,6 +1,6 @@
 -- The order file, written and read (01, "The two files"; refusals 1 to 6).
 -- Assumes nothing.
-use Prim.Native.Nat.{ℕ, _+_, _*_, _/_, _%_, _≤_}
+use Prim.Native.Nat.{ℕ, _+_, _*_, _/_, _%_, _≤_, min, max}
 use mathlib.Core.Path.{_≡_}
 use mathlib.Core.Bool.{Bool, _&&_}
 use mathlib.Core.List.{List, [], _∷_, _++_}
@@ -113,6 +113,13 @@ demandsIn part = itemsAt (numberAt 2 part) 2 (length part / 2) 0
 -- 3: the part's length; 6: a list with less room than demands.
 unfoldable pub spreadOf : ℕ → List ℕ → Answer (List ℕ)
 spreadOf room part = weigh (partOk (length part)) 3 (weigh (leb (length part / 2) room) 6 (figures (demandsIn part)))
+
+-- ---- Other bytes behind an order
+
+-- Where an order ends that a second file follows: it is read as far as its stated file length, at least 20 bytes, or as
+-- far as there are bytes (02, job 1).
+abbrev pub orderEnd : List ℕ → ℕ
+orderEnd bs = min (length bs) (max tariffOffset (numberAt 4 bs 16))
 
 -- ---- Writing
 

@@ -9,8 +9,8 @@ use mathlib.Core.Bool.{true}
 use mathlib.Core.List.{List, [], _∷_, _++_, append-nil}
 use borrow.Author.Tests.{le-leb, eq-eqb}
 use lib.Dec.{leb}
-use lib.ListN.{length, take, getD, length-drop, take-append-drop}
-use lib.Seq.{drop-at, take-all}
+use lib.ListN.{length, take, drop, getD, length-append, length-drop, take-append-drop}
+use lib.Seq.{drop-append-seam, drop-at, take-all, take-append-seam}
 use Rattle.terms.specs.declared.Tariff.{Tariff}
 use Rattle.terms.specs.Answer.{Answer, figures, refused}
 use Rattle.terms.specs.AnswerLaws.{same-figures, weigh-figures}
@@ -22,9 +22,9 @@ use Rattle.terms.specs.RangeRules.{PeriodsRange, TariffRange}
 use Rattle.terms.specs.RangeLaws.{periods-range, periods-ok, tariff-range, tariff-ok}
 use Rattle.order_file.specs.declared.orders.Order.{Order}
 use Rattle.encoding.specs.Number.{bytesOf, numberAt, bytesOfAll, itemsAt}
-use Rattle.encoding.specs.NumberLaws.{Within, Fit, Bytes, fit-drop, fit-each, length-bytes, length-all, numbers-written, numbers-read}
+use Rattle.encoding.specs.NumberLaws.{Within, Fit, Bytes, fit-drop, fit-each, length-bytes, length-all, number-front, numbers-written, numbers-read}
 use Rattle.encoding.specs.Header.{Placed}
-use Rattle.order_file.specs.Order.{orderLength, orderWords, orderBytes, tariffOffset, traceOffset, tariffIn, readOrder, OrderRules, tracePart, partOk, demandsIn, spreadOf, writeOrder, VeryOrder}
+use Rattle.order_file.specs.Order.{orderLength, orderWords, orderBytes, tariffOffset, traceOffset, tariffIn, readOrder, OrderRules, tracePart, partOk, demandsIn, spreadOf, orderEnd, writeOrder, VeryOrder}
 use Rattle.order_file.specs.OrderRules.{rules-read, read-rules, part-read, spread-figures, length-header, length-order, length-demands, write-figures}
 
 -- ---- The words of an order
@@ -216,3 +216,20 @@ module _ (bs : List ℕ) (o : Order) (e : readOrder bs ≡ figures o) where
 pub very-order : (bs : List ℕ) → Bytes bs → (a : Answer Order) → a ≡ readOrder bs → VeryOrder bs a
 very-order bs h (figures o) e = read-write bs o (sym e) h (length bs) (le-refl (length bs))
 very-order bs h (refused n) e = tt
+
+-- ---- Other bytes behind an order
+
+-- An order that is read ends where its bytes end, whatever follows.
+module _ (bs more : List ℕ) (o : Order) (e : readOrder bs ≡ figures o) where
+  pub end-is : orderEnd (bs ++ more) ≡ length bs
+  end-is =
+      let r = read-rules bs o e .0 in
+      let n : numberAt 4 (bs ++ more) 16 ≡ length bs = number-front 4 bs more 16 (omega (arith, r .header)) ∙ r .placed .file-length ∙ sym (r .placed .bytes) in
+      omega (arith, n, r .header, length-append bs more)
+
+  -- So it is parted from what follows.
+  pub first-file : take (orderEnd (bs ++ more)) (bs ++ more) ≡ bs
+  first-file = ap (λ (n : ℕ). take n (bs ++ more)) end-is ∙ take-append-seam bs more
+
+  pub second-file : drop (orderEnd (bs ++ more)) (bs ++ more) ≡ more
+  second-file = ap (λ (n : ℕ). drop n (bs ++ more)) end-is ∙ drop-append-seam bs more

@@ -27,7 +27,7 @@ ghost use Rattle.order_file.specs.Order.{orderSays, orderWords, readOrde
 
 const ORDER_KIND: u32 = 1;
 
-const TARIFF_OFFSET: usize = 20;
+pub const TARIFF_OFFSET: usize = 20;
 
 const TRACE_OFFSET: usize = 48;
 

@@ -166,6 +166,14 @@ read-holds room bs x e =
 pub read-fits : (room : ℕ) (bs : List ℕ) (x : Recorded) → planIn bs ≡ figures x → length (x .buckets) ≤ room → readPlan room bs ≡ figures x
 read-fits room bs x e l = sym (then-figures (planIn bs) (fitting room) e) ∙ ap (λ (ok : Bool). weigh ok 6 (figures x)) (le-leb _ _ l)
 
+-- 512 records are room for any plan, so reading with them refuses what the file itself is refused for and nothing else.
+pub read-whole : (bs : List ℕ) → readPlan traceLimit bs ≡ planIn bs
+read-whole bs = go (planIn bs) refl
+  where
+    go : (a : Answer Recorded) → planIn bs ≡ a → readPlan traceLimit bs ≡ planIn bs
+    go (figures x) e = read-fits traceLimit bs x e (plan-few bs (figuresIn x) (sym (ap recordedFigures e))) ∙ sym e
+    go (refused n) e = sym (then-refused (planIn bs) (fitting traceLimit) e) ∙ sym e
+
 module _ (bs : List ℕ) (room : ℕ) where
   -- What is answered, and what the array holds.
   abbrev pub Result : Answer PlanFigures → Cutting → Type 0

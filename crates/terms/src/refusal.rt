@@ -1,4 +1,4 @@
-// The refusals, with document 01's numbers and words.
+// The refusals, with the numbers and words of documents 01 and 02; the word of 10 is ours.
 ghost use mathlib.Core.Path.{_≡_};
 ghost use Rattle.terms.specs.Refusals.{numberOf};
 
@@ -21,6 +21,8 @@ pub enum Refusal {
     Meter,
     // 9: a meter that has taken its last period
     Full,
+    // 10: an order and a plan of different numbers of periods
+    Unequal,
 }
 
 // The number that a refusal is printed by.
@@ -37,5 +39,6 @@ pub fn refusal_number(x: Refusal) -> u32
         Refusal::NoPlan => 7,
         Refusal::Meter => 8,
         Refusal::Full => 9,
+        Refusal::Unequal => 10,
     }
 }

@@ -8,12 +8,12 @@ use lib.IntN.{ℤ, pos, natAbs}
 use lib.ListN.{length, length-append}
 use Rattle.terms.specs.declared.Bucket.{Bucket}
 use Rattle.terms.specs.declared.refusal.Refusal.{Refusal}
-use Rattle.terms.specs.declared.refusal.Refusal.the-variants.{Short, Foreign, Periods, Misplaced, Figure, List, NoPlan, Meter, Full}
+use Rattle.terms.specs.declared.refusal.Refusal.the-variants.{Short, Foreign, Periods, Misplaced, Figure, List, NoPlan, Meter, Full, Unequal}
 use Rattle.terms.specs.RangeRules.{BucketRange}
 use Rattle.terms.specs.Refusals.{numberOf}
 use Rattle.text.specs.Numeral.{numeral, ended}
 use Rattle.text.specs.Megabits.{megabits}
-use Rattle.text.specs.Lines.{newline, space, refusalLine, refusedWord, singleLine, singleWord, trialLine, trialWord}
+use Rattle.text.specs.Lines.{newline, space, noLine, refusalLine, refusedWord, singleLine, singleWord, trialLine, trialWord, yesLine, yesWord}
 use Rattle.text.specs.NumeralLaws.{numeral-short}
 use Rattle.text.specs.MegabitsLaws.{megabits-short, figure-short}
 use Rattle.text.specs.PutLaws.{ended-length}
@@ -45,6 +45,7 @@ refusals-short x = refusal-short (numberOf x) (small x)
     small NoPlan = omega arith
     small Meter = omega arith
     small Full = omega arith
+    small Unequal = omega arith
 
 -- ---- A trial: the spare has 64 bits and the discards have 32
 
@@ -91,3 +92,17 @@ single-short b cost h l =
       megabits-short d 3 (omega (arith, h .depths)),
       numeral-short 19 13 cost l,
     )
+
+-- ---- A check: the excess has 64 bits
+
+abbrev pub longestVerdict : ℕ
+longestVerdict = 25
+
+pub yes-short : (excess : ℕ) → excess < 2 ^ 64 → length (yesLine excess) ≤ longestVerdict
+yes-short excess h =
+    let e₁ = ended yesWord space in
+    let e₂ = ended (numeral excess) newline in
+    omega (arith, length-append e₁ e₂, ended-length (numeral excess) newline, numeral-short 19 19 excess (omega (arith, h)))
+
+pub no-short : length noLine ≤ longestVerdict
+no-short = omega arith

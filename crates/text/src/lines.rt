@@ -7,7 +7,7 @@ use crate::numerals::put_number;
 use terms::Bucket;
 ghost use Prim.Native.Nat.{_+_, _≤_};
 ghost use lib.ListN.{length};
-ghost use Rattle.text.specs.Lines.{bucketFields, bucketLine, planLine, refusalLine, singleLine, trialLine};
+ghost use Rattle.text.specs.Lines.{bucketFields, bucketLine, planLine, refusalLine, singleLine, trialLine, yesLine};
 ghost use Rattle.text.specs.PutLaws.{Puts};
 
 // The sheet's first line.
@@ -75,4 +75,13 @@ pub fn put_single_line(text: &mut [u8], at: usize, bucket: Bucket, cost: u64) ->
     let fields = put_word(text, at, b"single", b' ');
     let end = put_bucket(text, fields, bucket);
     put_number(text, end, cost, b'\n')
+}
+
+// The line of a plan that holds, with its excess.
+pub fn put_yes_line(text: &mut [u8], at: usize, excess: u64) -> usize
+    requires { ⌜ at + length (yesLine excess) ≤ length (now text) ⌝ }
+    ensures { λ r. ⌜ Puts (now (text .entry)) at (yesLine excess) (now (text .exit)) r ⌝ }
+{
+    let end = put_word(text, at, b"yes", b' ');
+    put_number(text, end, excess, b'\n')
 }

@@ -5,11 +5,12 @@ use mathlib.Core.Path.{_≡_, sym, ap, _∙_}
 use lib.ListN.{length}
 use Rattle.terms.specs.Answer.{figures}
 use Rattle.single.specs.Single.{singleSays}
+use Rattle.encoding.specs.FillLaws.{refused-fills, found-fills}
 use Rattle.text.specs.FittedLaws.{zeros, ready-count, ready-inside, ready-fills}
 use Rattle.text.specs.Lines.{singleLine}
 use Rattle.text.specs.LineLaws.{longestSingle}
 use Rattle.services.specs.Services.{singleFor}
-use Rattle.services.specs.ServiceLaws.{refused-fills, found-fills, single-line-short}
+use Rattle.services.specs.ServiceLaws.{single-line-short}
 use borrow.Author.Needs.{needs}
 use Rattle.services.proofs.lines.single_line.Statement.{statement}
 use Rattle.services.proofs.lines.single_line.Tie as tie

@@ -9,10 +9,10 @@ use mir.Val.{SFits}
 use mir.Facts.{toZ-ofZ}
 use Rattle.bucket.specs.declared.trials.TrialFigures.{TrialFigures}
 use Rattle.bucket.specs.Trial.{trialSays}
+use Rattle.encoding.specs.FillLaws.{refused-fills, found-fills}
 use Rattle.text.specs.FittedLaws.{zeros, ready-count, ready-inside, ready-fills}
 use Rattle.text.specs.Lines.{trialLine}
 use Rattle.text.specs.LineLaws.{longestTrial, trial-short}
-use Rattle.services.specs.ServiceLaws.{refused-fills, found-fills}
 use borrow.Author.Needs.{needs}
 use Rattle.services.proofs.lines.trial_line.Statement.{statement}
 use Rattle.services.proofs.lines.trial_line.Tie as tie

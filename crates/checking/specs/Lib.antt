@@ -1,0 +1,6 @@
+-- The definitions that contracts cite, and their laws.
+pub mod Check
+pub mod WeighLaws
+pub mod CheckLaws
+pub mod CallLaws
+pub mod OwnLaws
