@@ -4,3 +4,4 @@ pub mod Trace
 pub mod Trial
 pub mod Least
 pub mod Laws
+pub mod TrialLaws

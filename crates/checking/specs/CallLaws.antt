@@ -1,26 +1,29 @@
 -- The check call by call: what was read of the two files, and what the rest then gives.
 -- Assumes nothing.
-use Prim.Native.Nat.{ℕ}
+use Prim.Native.Nat.{ℕ, _-_, _≤_}
 use native.Mathlib.Omega.{arith}
 use mathlib.Core.Path.{_≡_, sym, ap, ap₂, subst, _∙_}
 use mathlib.Core.Bool.{Bool, true, false}
 use mathlib.Core.List.{List}
 use borrow.Author.Tests.{eq-eqb, ne-eqb}
 use lib.Dec.{eqb}
-use lib.ListN.{length, take}
+use lib.ListN.{length, take, drop, length-drop}
+use lib.Seq.{take-all}
 use Rattle.terms.specs.Answer.{Answer, figures, refused, andThen, weigh}
 use Rattle.terms.specs.AnswerLaws.{on-figures, on-refused, then-figures, then-refused}
 use Rattle.terms.specs.Limits.{traceLimit}
 use Rattle.terms.specs.Records.{Cutting}
 use Rattle.record_list.specs.Held.{held}
 use Rattle.record_list.specs.HeldLaws.{held-records}
+use Rattle.encoding.specs.FillLaws.{Fills}
+use Rattle.order_file.specs.Order.{orderEnd}
 use Rattle.order_file.specs.Ordered.{Ordered, ordered}
 use Rattle.order_file.specs.OrderedLaws.{is-ordered, ordered-count, ordered-range}
 use Rattle.plan_file.specs.declared.answers.PlanFigures.{PlanFigures}
 use Rattle.plan_file.specs.Plan.{Recorded, bucketsOf, figuresIn, planIn, readPlan, recordedFigures}
 use Rattle.plan_file.specs.PlanRules.{plan-few, read-rules, read-whole}
 use Rattle.plan_file.specs.RecordLaws.{RecordsRange}
-use Rattle.checking.specs.Check.{Verdict, verdictOf, compared, checkOf}
+use Rattle.checking.specs.Check.{Verdict, verdictOf, compared, checkOf, checkIn, checkFiles}
 use Rattle.checking.specs.WeighLaws.{Weighable, statedPlan}
 
 module _ (order plan : List ℕ) where
@@ -78,3 +81,15 @@ module _ (order plan : List ℕ) where
 
         pub check-past : figures (verdictOf (x .order .tariff) (x .demands) (statedPlan y records)) ≡ checkOf order plan
         check-past = sym (ap (λ (ok : Bool). weigh ok 10 (figures (verdictOf (x .order .tariff) (x .demands) (statedPlan y records)))) (eq-eqb _ _ h)) ∙ both-past
+
+-- One file behind the other: the order ends where it ends, and the plan is the rest.
+module _ (files : List ℕ) (end : ℕ) (e : end ≡ orderEnd files) where
+  pub end-inside : end ≤ length files
+  end-inside = omega (arith, e)
+
+  pub files-filled : (old new : List ℕ) (r : Answer ℕ) → Fills (checkIn (length old) (take end files) (take (length files - end) (drop end files))) old r new
+      → Fills (checkFiles (length old) files) old r new
+  files-filled old new r k =
+      let rest : take (length files - end) (drop end files) ≡ drop end files = take-all (length files - end) (drop end files) (omega (arith, length-drop end files)) in
+      subst (λ (n : ℕ). Fills (checkIn (length old) (take n files) (drop n files)) old r new) e
+      (subst (λ (ys : List ℕ). Fills (checkIn (length old) (take end files) ys) old r new) rest k)

@@ -21,7 +21,8 @@ use Rattle.terms.specs.Records.{Cutting, runLength, total}
 use Rattle.bucket.specs.Trace.{carries}
 use Rattle.single.specs.Single.{Serves}
 use Rattle.series.specs.Cutting.{none, run}
-use Rattle.series.specs.Series.{Carried, trueCost, seriesOf}
+use Rattle.series.specs.declared.answers.Plan.{Plan}
+use Rattle.series.specs.Series.{Carried, planOf, trueCost, seriesOf}
 use Rattle.series.specs.SeriesLaws.{series-cheapest, series-none, series-refuses}
 use Rattle.record_list.specs.Held.{noRecord}
 use Rattle.order_file.specs.declared.orders.Order.{Order}
@@ -54,7 +55,7 @@ module _ (t : Tariff) where
       let n = runLength x in
       let k = and-both (runOk t (take n ds) (x .bucket)) (runsOk t (drop n ds) xs) h in
       let left : RecordsRange (length (drop n ds)) xs = record { each = λ i l. r .each (suc i) (omega arith); sum = omega (arith, r .sum, length-drop n ds) } in
-      run (record { some = r .each 0 (omega arith) .some; inside = omega (arith, r .sum); fits = served (take n ds) (x .bucket) (k .0) }) (runs-carried (drop n ds) xs left (k .1))
+      run {ds = ds} {x = x} (record { some = r .each 0 (omega arith) .some; inside = omega (arith, r .sum); fits = served (take n ds) (x .bucket) (k .0) }) (runs-carried (drop n ds) xs left (k .1))
 
   -- and runs that are carried hold.
   pub carried-runs : {ds : List ℕ} {xs : Cutting} → Carried t ds xs → runsOk t ds xs ≡ true
@@ -117,6 +118,19 @@ module _ (t : Tariff) (ds : List ℕ) (plan : Recorded) where
   yes-of true (figures m) n e = (refl, (m, refl, cc))
   yes-of true (refused k) n e = absurd (no-yes e)
   yes-of false a n e = absurd (no-yes e)
+
+-- What is answered of a plan, once it is weighed and the least cost is found.
+module _ (t : Tariff) (ds : List ℕ) where
+  pub least-planned : (a : Answer Plan) → a ≡ planOf t (seriesOf t traceLimit ds) → leastCost t ds ≡ onFigures (λ x. x .cost) a
+  least-planned a e = go (seriesOf t traceLimit ds) ∙ ap (onFigures (λ x. x .cost)) (sym e)
+    where
+      go : (b : Answer Cutting) → onFigures (trueCost t) b ≡ onFigures (λ x. x .cost) (planOf t b)
+      go (figures xs) = refl
+      go (refused n) = refl
+
+  module _ (plan : Recorded) where
+    pub verdict-is : (ok : Bool) → planOk t ds plan ≡ ok → (a : Answer ℕ) → leastCost t ds ≡ a → cond ok (excessOver a (plan .cost)) no ≡ verdictOf t ds plan
+    verdict-is ok e a f = sym (ap₂ (λ (b : Bool) (c : Answer ℕ). cond b (excessOver c (plan .cost)) no) e f)
 
 -- ---- The two files
 
@@ -212,13 +226,15 @@ module _ (order : List ℕ) where
           let h = holds-is t ds (given .stated) range (found .0) in
           (given .is-order, record { stated = given .stated; is-read = given .is-plan; same-periods = given .same-periods; carried = h .carried; true-cost = h .true-cost })
 
-      -- The excess is what its true cost has over the least.
-      pub yes-excess : (m : ℕ) × (costIn order (yes-only .1 .stated .buckets) ≡ m + n) × Least t ds m
-      yes-excess =
+      -- The excess is what the plan's true cost has over the least.
+      pub yes-excess : (y : Recorded) → planIn plan ≡ figures y → (m : ℕ) × (costIn order (y .buckets) ≡ m + n) × Least t ds m
+      yes-excess y f =
+          let x = given .stated in
           let m = found .1 .0 in
           let l = found .1 .1 in
-          let h = holds-is t ds (given .stated) range (found .0) in
-          (m, omega (arith, h .true-cost, found .1 .2, holds-least t ds (given .stated) range (found .0) m l), least-is t ds m l)
+          let same : x ≡ y = same-figures (sym (given .is-plan) ∙ f) in
+          let cost : trueCost t (x .buckets) ≡ m + n = omega (arith, holds-is t ds x range (found .0) .true-cost, found .1 .2, holds-least t ds x range (found .0) m l) in
+          (m, ap (λ (z : Recorded). costIn order (z .buckets)) (sym same) ∙ cost, least-is t ds m l)
 
     module _ (o : Order) (e : readOrder order ≡ figures o) (r : Right) where
       pub yes-always : (n : ℕ) × (checkOf order plan ≡ figures (yes n))
@@ -237,10 +253,9 @@ module _ (order : List ℕ) where
       least-yes no-dearer =
           let a = yes-always in
           let n = a .0 in
-          let b = yes-excess n (a .1) in
+          let b = yes-excess n (a .1) (r .stated) (r .is-read) in
           let m = b .0 in
-          let same : yes-only n (a .1) .1 .stated ≡ r .stated = same-figures (sym (yes-only n (a .1) .1 .is-read) ∙ r .is-read) in
-          let cost : r .stated .cost ≡ m + n = r .true-cost ∙ ap (λ (y : Recorded). costIn order (y .buckets)) (sym same) ∙ b .1 in
+          let cost : r .stated .cost ≡ m + n = r .true-cost ∙ b .1 in
           let x = b .2 .reached in
           let zero : n ≡ 0 = omega (arith, cost, x .2, no-dearer (x .0) (x .1)) in
           a .1 ∙ ap (λ (k : ℕ). figures (yes k)) zero

@@ -6,15 +6,11 @@ use mathlib.Core.Path.{_≡_, refl, sym, ap, subst, _∙_}
 use mathlib.Core.List.{List, [], _∷_, _++_, append-nil, append-assoc}
 use lib.ListN.{length, take, drop, getD, length-take, length-drop}
 use lib.Seq.{drop-drop}
-use Rattle.terms.specs.declared.Bucket.{Bucket}
 use Rattle.terms.specs.declared.BucketRecord.{BucketRecord}
 use Rattle.terms.specs.declared.Factor.{Factor}
-use Rattle.terms.specs.Answer.{figures}
 use Rattle.terms.specs.Limits.{traceLimit}
 use Rattle.terms.specs.RangeRules.{FactorRange, FreshRange, RecordRange, PeriodsRange}
-use Rattle.terms.specs.RangeLaws.{fresh-ok, periods-ok}
 use Rattle.terms.specs.Records.{Cutting, Each, runLength, total}
-use Rattle.bucket.specs.Trial.{trialFigures, trialOf}
 use Rattle.record_list.specs.Held.{noRecord}
 use Rattle.record_list.specs.PartLaws.{Begins, first-begins, next-begins, rest, rest-next, rest-none, run-inside}
 use Rattle.text.specs.PutLaws.{Puts, Room, room-front, room-next, puts-both}
@@ -26,10 +22,6 @@ pub record Printable (f : Factor) (ds : List ℕ) (xs : Cutting) : Type 0 where
   pub few : length ds ≤ traceLimit
   pub sum : total runLength xs ≡ length ds
   pub each : Each RecordRange xs
-
--- A trial in its ranges is not refused.
-pub tried : (b : Bucket) (f : Factor) (ds : List ℕ) → FreshRange b f → PeriodsRange (length ds) → trialOf b f ds ≡ figures (trialFigures b f ds)
-tried b f ds h k = rw (periods-ok (length ds) k, fresh-ok b f h)
 
 -- ---- The lines stored run by run
 

@@ -6,7 +6,7 @@ use mir.Syntax.{w64}
 use Rattle.terms.specs.AnswerLaws.{figures-refused, same-figures}
 use Rattle.bucket.specs.declared.trials.TrialFigures.{TrialFigures}
 use Rattle.bucket.specs.Trial.{trialSays}
-use Rattle.sheets.specs.RunLaws.{tried}
+use Rattle.bucket.specs.TrialLaws.{tried}
 use Rattle.sheets.proofs.runs.spare_of.Statement.{statement}
 use Rattle.sheets.proofs.runs.spare_of.Tie as tie
 
