@@ -16,7 +16,8 @@ returns : tie.Need-returns
 returns c =
     let l = c .before .before in
     let e = l .before .before .before .before in
-    files-filled (e .before .before .before .args .files .now) _ (e .order-end .ensures) _ _ _ (l .check-line .ensures)
+    let s = e .before .before .before .args in
+    files-filled (s .files .now) _ (e .order-end .ensures) (s .text .now) _ _ (l .check-line .ensures)
 
 pub check-files-spec : {M : Type 1} → statement M
 check-files-spec =
