@@ -3,7 +3,8 @@
 use Prim.Native.Nat.{ℕ}
 use mathlib.Core.Path.{_≡_, sym, ap, _∙_}
 use Rattle.terms.specs.Answer.{Answer, figures, refused, onFigures}
-use Rattle.exports.specs.Answers.{coded, figureOr}
+use Rattle.checking.specs.Check.{Verdict}
+use Rattle.exports.specs.Answers.{coded, excessOr, figureOr}
 
 module _ {A : Type 0} (a : Answer A) where
   pub code-refused : (figure : A → ℕ) (n r : ℕ) → a ≡ refused n → r ≡ coded (refused n) → r ≡ coded (onFigures figure a)
@@ -18,3 +19,7 @@ module _ {A : Type 0} (a : Answer A) where
 
     pub number-found : (x : A) → a ≡ figures x → figure x ≡ figureOr (onFigures figure a) old
     number-found x e = sym (ap (λ (b : Answer A). figureOr (onFigures figure b) old) e)
+
+-- The number lent for an excess holds what the answer of a check makes of it.
+pub excess-is : (a b : Answer Verdict) → a ≡ b → (old : ℕ) → excessOr b old ≡ excessOr a old
+excess-is a b e old = ap (λ (c : Answer Verdict). excessOr c old) (sym e)
