@@ -1,5 +1,5 @@
--- The lettered figures of document 01, "Figures to hold the definitions to", as one table. That it holds is proved of
--- the definitions (`TableLaws`).
+-- The lettered figures of document 01, "Figures to hold the definitions to", and checks of plans for the printed case
+-- (02, job 1), as one table. That it holds is proved of the definitions (`TableLaws`).
 -- Assumes nothing.
 use Prim.Native.Nat.{ℕ}
 use mathlib.Core.List.{List, [], _∷_, map}
@@ -8,7 +8,7 @@ use lib.ListN.{length}
 use Rattle.terms.specs.declared.Factor.{Factor}
 use Rattle.terms.specs.declared.Tariff.{Tariff}
 use Rattle.terms.specs.Answer.{Answer, figures, refused, onFigures}
-use Rattle.terms.specs.Records.{Cutting}
+use Rattle.terms.specs.Records.{Cutting, recordOf}
 use Rattle.bucket.specs.declared.trials.TrialFigures.{TrialFigures}
 use Rattle.bucket.specs.Trial.{trialOf}
 use Rattle.meter.specs.declared.meters.Meter.{Meter}
@@ -19,6 +19,7 @@ use Rattle.single.specs.Single.{bucketOf, atRate, singleOf}
 use Rattle.series.specs.Series.{trueCost, seriesOf}
 use Rattle.text.specs.Megabits.{megabits}
 use Rattle.sheets.specs.Sheet.{sheetText}
+use Rattle.checking.specs.Check.{Verdict, yes, no, verdictOf}
 use Rattle.figure_table.specs.Rows.{Row}
 
 -- the factor of the printed case
@@ -96,9 +97,17 @@ textRow bs = figures (map pos bs)
 printedSheet : Cutting → List ℤ
 printedSheet xs = map pos (sheetText (record { order = record { periods = 3; tariff = printed }; demands = case; cutting = xs }))
 
+-- the verdict on a plan of these records for a trace, at the cost that it states: 1 and the excess, or 0
+verdictRow : Verdict → List ℤ
+verdictRow (yes excess) = pos 1 ∷ pos excess ∷ []
+verdictRow no = pos 0 ∷ []
+
+verdictAt : Tariff → List ℕ → ℕ → Cutting → Answer (List ℤ)
+verdictAt t ds cost xs = figures (verdictRow (verdictOf t ds (record { periods = length ds; cost = cost; buckets = xs })))
+
 -- The rows of the series stand last: they take longest, and the test ends at the first row that is wrong.
 unfoldable pub table : List Row
-unfolding half tariff printed withFee capped uneven empty case depthRow singleRow costRow bucketRows seriesRow seriesAt trialRow meterRow textRow printedSheet
+unfolding half tariff printed withFee capped uneven empty case depthRow singleRow costRow bucketRows seriesRow seriesAt trialRow meterRow textRow printedSheet verdictRow verdictAt
 table =
     -- A: 4,8,2 at rates 4, 5, 6: depths 8, 4, 2
     record { given = onFigures depthRow (depthOf printed 4 case); paper = figures (pos 8 ∷ []) }
@@ -157,4 +166,13 @@ table =
           ∷ []
           );
     }
+    -- checks for the printed case: the plan found states 40
+    ∷ record { given = verdictAt printed case 40 (recordOf 2 5 4 ∷ recordOf 1 0 4 ∷ []); paper = figures (pos 1 ∷ pos 0 ∷ []) }
+    -- … one bucket (5, 4) states 46, which is 6 more; 45 is not its true cost
+    ∷ record { given = verdictAt printed case 46 (recordOf 3 5 4 ∷ []); paper = figures (pos 1 ∷ pos 6 ∷ []) }
+    ∷ record { given = verdictAt printed case 45 (recordOf 3 5 4 ∷ []); paper = figures (pos 0 ∷ []) }
+    -- … one bucket (5, 3) states its true cost and does not carry the trace
+    ∷ record { given = verdictAt printed case 43 (recordOf 3 5 3 ∷ []); paper = figures (pos 0 ∷ []) }
+    -- … and for H, which has no plan, a no and never 7
+    ∷ record { given = verdictAt empty (8 ∷ 2 ∷ []) 44 (recordOf 2 5 10 ∷ []); paper = figures (pos 0 ∷ []) }
     ∷ []

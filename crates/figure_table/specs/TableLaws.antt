@@ -1,4 +1,4 @@
--- The lettered figures hold, by one test over the table.
+-- The figures hold, by one test over the table.
 -- Assumes nothing.
 use mathlib.Core.Path.{_≡_, refl}
 use mathlib.Core.Bool.{true}
@@ -15,12 +15,13 @@ use Rattle.series.specs.Cutting.{longer, wins, bestFirst, bests}
 use Rattle.series.specs.Series.{seriesOf}
 use Rattle.text.specs.Numeral.{digits, numeralIn}
 use Rattle.sheets.specs.Sheet.{runLines}
+use Rattle.checking.specs.Check.{runsOk}
 use Rattle.figure_table.specs.Rows.{Hold}
 use Rattle.figure_table.specs.RowLaws.{allRight, all-hold}
 use Rattle.figure_table.specs.Table.{table}
 
 table-right : allRight table ≡ true
-unfolding table allRight startOf sumOf carriesFrom gaps leastOf spareFrom trialFigures meterOk offerOf afterOffers firstFrom depthOf costOf smaller preferred bestOf singleOf total longer wins bestFirst bests seriesOf digits numeralIn runLines
+unfolding table allRight startOf sumOf carriesFrom gaps leastOf spareFrom trialFigures meterOk offerOf afterOffers firstFrom depthOf costOf smaller preferred bestOf singleOf total longer wins bestFirst bests seriesOf digits numeralIn runLines runsOk
 table-right = refl
 
 pub figures-hold : Hold table
