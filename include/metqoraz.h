@@ -1,5 +1,5 @@
 /*
- * Metqoraz, token bucket bookings, for programs in C: eleven calls on numbers and lent memory.
+ * Metqoraz, token bucket bookings, for programs in C: twelve calls on numbers and lent memory.
  *
  *     rt staticlib exports
  *     cc -Iinclude mine.c target/staticlib/libexports.a
@@ -56,7 +56,8 @@ enum {
     METQORAZ_FIGURE = 5,    /* a figure outside its range */
     METQORAZ_LIST = 6,      /* a lent list shorter than what is to fill it */
     METQORAZ_NO_PLAN = 7,   /* no depth, no bucket or no cutting carries the demands inside the caps */
-    METQORAZ_FULL = 9       /* a meter has taken all the periods that it takes */
+    METQORAZ_FULL = 9,      /* a meter has taken all the periods that it takes */
+    METQORAZ_UNEQUAL = 10   /* an order and a plan with different numbers of periods */
 };
 
 /* The number of the refusal that an answer is; 0 where it is a figure. */
@@ -189,6 +190,22 @@ uint64_t metqoraz_book(const uint8_t *order, size_t order_len, uint8_t *plan, si
 uint64_t metqoraz_plan(const uint8_t *plan, size_t plan_len, uint32_t *periods, uint32_t *buckets, uint32_t *runs,
                        size_t runs_len, MetqorazRate *rates, size_t rates_len, MetqorazDepth *depths,
                        size_t depths_len);
+
+/*
+ * Checks a plan file for an order, whoever made it: whether each bucket, fresh with the order's factor, carries its
+ * run, no rate and no depth is above its cap, and the cost stated is the plan's true cost. Answers 1 for yes, with what
+ * that cost is above the cheapest series' in the excess; 0 for no, and the excess holds what it held. Where no cutting
+ * inside the caps carries the demands, every plan gets a no.
+ * Refuses 1 to 5 (the order), then 1 to 5 (the plan), then 10 (their numbers of periods differ).
+ *
+ *     uint64_t excess;
+ *     metqoraz_check(order, length, plan, booked, &excess)
+ *
+ * answers 1, with an excess of 0. A plan of the one bucket of metqoraz_single that states 46 gets 1 and an excess of 6;
+ * if it states 45, it gets 0.
+ */
+uint64_t metqoraz_check(const uint8_t *order, size_t order_len, const uint8_t *plan, size_t plan_len,
+                        uint64_t *excess);
 
 /*
  * Writes the sheet of the cheapest series into the text, a newline behind each line and no byte 0 at the end; answers

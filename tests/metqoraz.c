@@ -102,6 +102,41 @@ static void booked(const uint8_t *order, size_t length)
     kept("depths", depths, sizeof depths);
 }
 
+/* A plan of another house: one bucket of rate 5 and depth 4 for three periods, which states a cost of 46. */
+static const uint8_t one_bucket[44] = {
+    2,  0, 0, 0, 3,  0, 0, 0, 1,  0, 0, 0, /* kind, T, number of buckets */
+    24, 0, 0, 0, 32, 0, 0, 0, 44, 0, 0, 0, /* offset of cost, offset of buckets, length */
+    46, 0, 0, 0, 0,  0, 0, 0,              /* cost */
+    3,  0, 0, 0, 5,  0, 0, 0, 4,  0, 0, 0, /* run length, rate, depth */
+};
+
+/* Plans checked: the own one, a dearer one, one with a false cost, and one for another number of periods. */
+static void checked(const uint8_t *order, size_t length)
+{
+    uint8_t plan[METQORAZ_LONGEST_PLAN];
+    uint64_t bytes = metqoraz_book(order, length, plan, sizeof plan);
+    uint64_t excess;
+    say("check, the own plan", metqoraz_check(order, length, plan, (size_t)bytes, &excess));
+    printf("  excess %llu\n", (unsigned long long)excess);
+    say("check, one bucket", metqoraz_check(order, length, one_bucket, sizeof one_bucket, &excess));
+    printf("  excess %llu\n", (unsigned long long)excess);
+
+    mark(&excess, sizeof excess);
+    memcpy(plan, one_bucket, sizeof one_bucket);
+    plan[24] = 45;
+    say("check, a cost of 45", metqoraz_check(order, length, plan, sizeof one_bucket, &excess));
+    memcpy(plan, one_bucket, sizeof one_bucket);
+    plan[40] = 3;
+    plan[24] = 43;
+    say("check, a depth of 3", metqoraz_check(order, length, plan, sizeof one_bucket, &excess));
+    memcpy(plan, one_bucket, sizeof one_bucket);
+    plan[4] = plan[32] = 2;
+    say("check, two periods", metqoraz_check(order, length, plan, sizeof one_bucket, &excess));
+    say("check, two periods and a byte fewer", metqoraz_check(order, length, plan, sizeof one_bucket - 1, &excess));
+    say("check, an order", metqoraz_check(order, length, order, length, &excess));
+    kept("excess", &excess, sizeof excess);
+}
+
 static void meters(void)
 {
     uint64_t totals[METQORAZ_TOTALS];
@@ -150,10 +185,12 @@ static void refused(const char *what, const uint8_t *order, size_t length)
     MetqorazRate rate;
     MetqorazDepth depth;
     int64_t spare;
+    uint64_t excess;
     uint8_t bytes[METQORAZ_LONGEST_SHEET];
     mark(&rate, sizeof rate);
     mark(&depth, sizeof depth);
     mark(&spare, sizeof spare);
+    mark(&excess, sizeof excess);
     mark(bytes, sizeof bytes);
     printf("%s\n", what);
     say("  depth", metqoraz_depth(order, length, (MetqorazRate){0}));
@@ -164,10 +201,12 @@ static void refused(const char *what, const uint8_t *order, size_t length)
         metqoraz_trial_line(order, length, (MetqorazRate){4096}, (MetqorazDepth){0}, bytes, sizeof bytes));
     say("  series", metqoraz_series(order, length));
     say("  book", metqoraz_book(order, length, bytes, sizeof bytes));
+    say("  check", metqoraz_check(order, length, one_bucket, sizeof one_bucket, &excess));
     say("  sheet", metqoraz_sheet(order, length, bytes, sizeof bytes));
     kept("  rate", &rate, sizeof rate);
     kept("  depth", &depth, sizeof depth);
     kept("  spare", &spare, sizeof spare);
+    kept("  excess", &excess, sizeof excess);
     kept("  bytes", bytes, sizeof bytes);
 }
 
@@ -194,6 +233,7 @@ int main(void)
     size_t bytes = (size_t)length;
     printed_case(order, bytes);
     booked(order, bytes);
+    checked(order, bytes);
     meters();
     bad_orders();
     short_rooms(order, bytes);

@@ -65,6 +65,7 @@ extern "C" {
         depths: *mut Depth,
         depths_len: usize,
     ) -> u64;
+    fn metqoraz_check(order: *const u8, order_len: usize, plan: *const u8, plan_len: usize, excess: *mut u64) -> u64;
     fn metqoraz_meter(
         rate: Rate,
         depth: Depth,
@@ -278,6 +279,22 @@ pub fn plan(file: &[u8]) -> Answer<Plan> {
     let all = runs.into_iter().zip(rates).zip(depths);
     let records = all.map(|((periods, rate), depth)| Record { periods, rate, depth });
     Ok(Plan { periods: figures.periods, cost, records: records.take(figures.buckets as usize).collect() })
+}
+
+/// Checks a plan file for an order, whoever made it: whether each bucket carries its run, no rate and no depth is
+/// above its cap, and the cost stated is the true one. With a yes it puts what that cost is above the least into the
+/// number lent; with a no the number keeps its value.
+pub fn check_into(order: &[u8], plan: &[u8], excess: &mut u64) -> Answer<bool> {
+    // SAFETY: as in `order_into`.
+    let code = unsafe { metqoraz_check(order.as_ptr(), order.len(), plan.as_ptr(), plan.len(), excess) };
+    answer(code).map(|yes| yes == 1)
+}
+
+/// What the true cost of a plan file for an order is above the least, with a yes; none with a no.
+pub fn check(order: &[u8], plan: &[u8]) -> Answer<Option<u64>> {
+    let mut excess = 0;
+    let yes = check_into(order, plan, &mut excess)?;
+    Ok(yes.then_some(excess))
 }
 
 /// What a meter holds and has counted.

@@ -1,9 +1,10 @@
 //! Tests of the package itself: the paper's lettered figures, every quick way against the plain one, both files, the
-//! meter and the refusals. A failing random test names its seed.
+//! meter, the check of a plan and the refusals. A failing random test names its seed.
 
 use metqoraz::inputs::{any_tariff, bucket, corner_tariff, damaged, random_tariff, small_tariff, trace};
 use metqoraz::inputs::{Seed, Shape, SHAPES};
 use metqoraz::paper::bucket::{carries, trial, Trial};
+use metqoraz::paper::check::{check, check_by_trying, check_line, two_files, Verdict};
 use metqoraz::paper::depth::{depth_at, depth_by_trying};
 use metqoraz::paper::meter::{offer, open, Meter};
 use metqoraz::paper::order::{read_order, trace_of, write_order};
@@ -537,4 +538,121 @@ fn a_broken_meter_is_refused_and_unchanged() {
     }
     let mut most = Meter { over: 262_140, ..sound };
     assert_eq!(offer(&mut most, 1), Ok(()), "over of 65,535 in each period");
+}
+
+// The check of a plan (02, job 1).
+
+const LIMIT: u64 = 100_000_000_000_000;
+const NO: Answer<Verdict> = Ok(Verdict::No);
+
+const fn yes(excess: u64) -> Answer<Verdict> {
+    Ok(Verdict::Yes(excess))
+}
+
+/// The file of a plan of one bucket.
+fn one_bucket(periods: u32, (rate, depth): (u32, u32), cost: u64) -> Vec<u8> {
+    write_plan(periods, &plan(cost, &[(periods, rate, depth)])).unwrap()
+}
+
+#[test]
+fn plans_for_the_printed_order() {
+    let order = write_order(&TARIFF, &TRACE).unwrap();
+    let own = write_plan(3, &plan(40, &[(2, 5, 4), (1, 0, 4)])).unwrap();
+    for way in [check, check_by_trying] {
+        let one = |bucket, cost| way(&order, &one_bucket(3, bucket, cost));
+        assert_eq!(way(&order, &own), yes(0));
+        assert_eq!([one((5, 4), 46), one((6, 2), 46), one((5, 5), 49)], [yes(6), yes(6), yes(9)]);
+        assert_eq!([0, 40, 45, 47, LIMIT].map(|cost| one((5, 4), cost)), [NO; 5]);
+        assert_eq!(one((5, 3), 43), NO);
+    }
+}
+
+#[test]
+fn plans_at_the_caps() {
+    let checked = |caps: (u32, u32), bucket| {
+        let tariff = Tariff { rate_cap: caps.0, depth_cap: caps.1, ..TARIFF };
+        check(&write_order(&tariff, &TRACE).unwrap(), &one_bucket(3, bucket, 46))
+    };
+    assert_eq!([(6, 2), (5, 4), (6, 1), (2, 6)].map(|caps| checked(caps, (6, 2))), [yes(6), NO, NO, NO]);
+    assert_eq!([(5, 4), (6, 2), (5, 3), (4, 5)].map(|caps| checked(caps, (5, 4))), [yes(6), NO, NO, NO]);
+}
+
+#[test]
+fn plans_for_rows_g_and_h() {
+    let order = |trace| write_order(&TARIFF_G, trace).unwrap();
+    let one = |trace, bucket, cost| check(&order(trace), &one_bucket(2, bucket, cost));
+    assert_eq!([one(&[2, 8], (5, 3), 30), one(&[2, 8], (5, 4), 32)], [yes(0), yes(2)], "G");
+    assert_eq!([one(&[8, 2], (5, 3), 30), one(&[8, 2], (5, 10), 44), one(&[8, 2], (8, 0), 36)], [NO; 3], "H");
+    assert_eq!(check(&order(&[8, 2]), &one_bucket(1, (5, 3), 17)), Err(10), "H");
+}
+
+#[test]
+fn check_refusals() {
+    let order = write_order(&TARIFF, &TRACE).unwrap();
+    let refusal = |plan: &[u8]| check(&order, plan).unwrap_err();
+    let other = one_bucket(2, (5, 4), 32);
+    assert_eq!(refusal(&other), 10);
+    let words = [(0, 3), (2, 0), (3, 0), (9, 4_096)].map(|word| refusal(&with_words(&other, &[word])));
+    assert_eq!(words, [2, 3, 4, 5], "the plan's own, then 10");
+    assert_eq!([refusal(&[]), refusal(&other[..23]), refusal(&order)], [1, 1, 2]);
+    let above = with_words(&one_bucket(3, (5, 4), LIMIT), &[(6, 276_447_233)]);
+    assert_eq!(refusal(&above), 5);
+    let orders = [(0, 2), (1, 0), (3, 0), (9, 0)].map(|word| with_words(&order, &[word]));
+    for plan in [&[][..], &other, &above, &order] {
+        assert_eq!(orders.each_ref().map(|order| check(order, plan)), [2, 3, 4, 5].map(Err), "the order's first");
+        assert_eq!(check(&order[..19], plan), Err(1));
+    }
+}
+
+#[test]
+fn lines_of_a_check() {
+    let order = write_order(&TARIFF, &TRACE).unwrap();
+    let line = |order: &[u8], plan: &[u8]| check_line(&[order, plan].concat());
+    let plan = one_bucket(3, (5, 4), 46);
+    assert_eq!(two_files(&[&order[..], &plan].concat()), (&order[..], &plan[..]));
+    assert_eq!(
+        line(&order, &plan),
+        "yes 6
+"
+    );
+    assert_eq!(
+        line(&order, &one_bucket(3, (5, 3), 43)),
+        "no
+"
+    );
+    assert_eq!(
+        line(&order, &one_bucket(2, (5, 4), 32)),
+        "refused 10
+"
+    );
+    let lengths = [10, 19, 20, 53, 55, 99, 4_000_000_000];
+    assert_eq!(
+        lengths.map(|length| line(&with_words(&order, &[(4, length)]), &plan)),
+        ["refused 4
+"; 7]
+    );
+    assert_eq!(
+        [line(&order[..19], &[]), line(&order[..20], &[])],
+        [
+            "refused 1
+",
+            "refused 4
+"
+        ]
+    );
+    assert_eq!(
+        [line(&[], &[]), line(&order, &[]), line(&order, &plan[..23])],
+        ["refused 1
+"; 3]
+    );
+    assert_eq!(
+        [line(&order, &plan[..43]), line(&order, &[&plan[..], &[0]].concat())],
+        ["refused 4
+"; 2]
+    );
+    assert_eq!(
+        [line(&plan, &order), line(&order, &order)],
+        ["refused 2
+"; 2]
+    );
 }

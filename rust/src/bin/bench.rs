@@ -1,6 +1,8 @@
-//! How fast the product's series, single and sheet are, as ratios in one run: against the plain dynamic programme of
-//! `paper`, and against the product's own algorithm in Rust. Prints the appendix of docs/PERFORMANCE.md.
+//! How fast the product's series, single, sheet and check are, as ratios in one run: against the plain dynamic
+//! programme of `paper`, against the product's own algorithm in Rust, and against the calls that they stand for.
+//! Prints the appendix of docs/PERFORMANCE.md.
 
+use metqoraz::calls::{Depth, Rate};
 use metqoraz::inputs::{trace, Seed, Shape};
 use metqoraz::paper::order::write_order;
 use metqoraz::paper::series::series_plain;
@@ -74,6 +76,17 @@ impl Case {
         sheet / series
     }
 
+    /// The check of the own plan, against the series and one walk through the plan: its file read, and a trial of one
+    /// bucket on the whole trace, which takes each period once.
+    fn check_against_its_parts(&self) -> f64 {
+        let plan = calls::book(&self.order).unwrap_or_default();
+        let trial = || calls::trial(black_box(&self.order), Rate(2_000), Depth(100_000));
+        let walk = || (calls::plan(black_box(&plan)), trial());
+        let check = || calls::check(black_box(&self.order), black_box(&plan));
+        let (check, parts) = in_turns(check, || (self.product(), walk()));
+        check / parts
+    }
+
     fn single_against_plain(&self) -> f64 {
         let plain = || single_by_walk(black_box(&self.trace), &self.tariff);
         let (plain, product) = in_turns(plain, || calls::single(black_box(&self.order)));
@@ -104,12 +117,13 @@ fn table(title: &str, fees: &[u32], digits: usize, ratio: impl Fn(&Case) -> f64)
     }
 }
 
-/// The series against the plain programme and the yardstick, the sheet against the series,
-/// and the single bucket against the plain search.
+/// The series against the plain programme and the yardstick, the sheet against the series, the check against the series
+/// and a walk, and the single bucket against the plain search.
 fn ratio_tables() {
     table("Series: plain / product", &FEES, 1, Case::against_plain);
     table("Series: product / the same algorithm in Rust", &FEES, 2, Case::against_yardstick);
     table("Sheet / series", &[0, 100_000, 1_000_000_000], 2, Case::sheet_against_series);
+    table("Check of the own plan / series and a walk", &[0, 100_000, 1_000_000_000], 2, Case::check_against_its_parts);
     table("Single: plain / product", &[100_000], 1, Case::single_against_plain);
 }
 

@@ -1,7 +1,9 @@
-//! Document 01 as a program, written from the paper alone. Each file takes one heading of the paper, in the plainest
-//! way that follows its words; the quicker ways (`walk`, `series_plain`) are compared with those by the tests.
+//! Document 01 as a program, and what document 02 adds to it, written from the papers alone. Each file takes one
+//! heading of 01 or one job of 02, in the plainest way that follows its words; the quicker ways (`walk`,
+//! `series_plain`) are compared with those by the tests.
 
 pub mod bucket;
+pub mod check;
 pub mod depth;
 pub mod meter;
 pub mod order;
@@ -26,6 +28,8 @@ pub const LIST: u32 = 6;
 pub const NO_PLAN: u32 = 7;
 pub const METER: u32 = 8;
 pub const FULL: u32 = 9;
+// 02, job 1: after both files' own refusals.
+pub const UNEQUAL: u32 = 10;
 
 /// The refusal, unless the rule holds.
 fn require(holds: bool, refusal: u32) -> Answer<()> {

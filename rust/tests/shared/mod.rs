@@ -120,21 +120,31 @@ pub fn printed_case() -> (Tariff, Vec<u16>) {
     (tariff, vec![4, 8, 2])
 }
 
-/// How often each answer was compared: figures under 0, refusals under their numbers.
-/// It shows that the inputs reach them.
-#[derive(Default)]
-pub struct Tally(RefCell<BTreeMap<u32, u32>>);
+/// How often each answer was compared. It shows that the inputs reach them.
+pub struct Tally<K>(RefCell<BTreeMap<K, u32>>);
 
-impl Tally {
+impl<K> Default for Tally<K> {
+    fn default() -> Tally<K> {
+        Tally(RefCell::default())
+    }
+}
+
+impl Tally<u32> {
+    /// Figures under 0, refusals under their numbers.
     pub fn count<T>(&self, answer: &Answer<T>) {
-        let number = answer.as_ref().err().copied().unwrap_or(0);
-        *self.0.borrow_mut().entry(number).or_default() += 1;
+        self.meet(answer.as_ref().err().copied().unwrap_or(0));
+    }
+}
+
+impl<K: Ord + Debug> Tally<K> {
+    pub fn meet(&self, answer: K) {
+        *self.0.borrow_mut().entry(answer).or_default() += 1;
     }
 
-    /// Exactly these answers were met, each of them so many times at least.
-    pub fn expect(&self, numbers: &[u32], least: u32) {
+    /// Exactly these answers were met, each of them so many times at least. They stand in their order.
+    pub fn expect(&self, answers: &[K], least: u32) {
         let met = self.0.borrow();
-        assert!(met.keys().eq(numbers) && met.values().all(|&times| times >= least), "answers met: {met:?}");
+        assert!(met.keys().eq(answers) && met.values().all(|&times| times >= least), "answers met: {met:?}");
     }
 }
 
