@@ -4,3 +4,4 @@ pub mod WeighLaws
 pub mod CheckLaws
 pub mod CallLaws
 pub mod OwnLaws
+pub mod InputLaws

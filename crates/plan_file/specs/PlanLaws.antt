@@ -4,23 +4,27 @@
 use Prim.Native.Nat.{ℕ, zero, suc, _+_, _*_, _≤_, _<_}
 use native.Mathlib.Nat.{le-refl}
 use native.Mathlib.Omega.{arith}
-use mathlib.Core.Path.{_≡_, sym, ap, ap₂, subst, _∙_}
+use mathlib.Core.Path.{_≡_, refl, sym, ap, ap₂, subst, _∙_}
+use mathlib.Core.Bool.{Bool, true, false, cond}
 use mathlib.Core.List.{List, [], _∷_, _++_, append-nil, append-assoc}
 use borrow.Author.Tests.{le-leb}
-use lib.ListN.{length, take, drop, getD, length-drop, take-append-drop}
+use lib.Dec.{leb, eqb}
+use lib.ListN.{length, take, drop, getD, length-append, length-drop, take-append-drop}
 use lib.Seq.{length-take-le, take-add, take-all}
 use Rattle.terms.specs.declared.BucketRecord.{BucketRecord}
 use Rattle.terms.specs.Answer.{Answer, figures, refused}
+use Rattle.terms.specs.Bools.{not-true-false}
 use Rattle.terms.specs.Limits.{costLimit}
 use Rattle.terms.specs.Records.{Cutting, Each, recordOf, runLength, runRate, runDepth, total}
 use Rattle.plan_file.specs.declared.answers.PlanFigures.{PlanFigures}
 use Rattle.encoding.specs.Number.{bytesOf, numberAt, bytesOfAll, itemsAt}
-use Rattle.encoding.specs.NumberLaws.{Within, Bytes, numbers-written, numbers-read, each-at, length-bytes, length-all, length-items, number-written, number-read, items-written, items-read}
+use Rattle.encoding.specs.NumberLaws.{Within, Bytes, numbers-written, numbers-read, each-at, length-bytes, length-all, length-items, number-front, number-written, number-read, items-written, items-read}
 use Rattle.encoding.specs.Header.{Placed}
+use Rattle.encoding.specs.HeaderLaws.{placed-range}
 use Rattle.record_list.specs.Held.{noRecord}
 use Rattle.plan_file.specs.RecordLaws.{RecordsRange, records-ok}
-use Rattle.plan_file.specs.Plan.{Recorded, figuresIn, costOffset, bucketsOffset, planLength, planWords, planBytes, recordBytes, recordAt, recordsIn, planIn, readPlan, planFile, writePlan, VeryPlan}
-use Rattle.plan_file.specs.PlanRules.{PlanRules, CountsRange, counts-ok, bucketsIn, recordedIn, rules-read, read-rules, read-fits, read-holds, write-figures, write-rules, length-head, length-record, length-plan}
+use Rattle.plan_file.specs.Plan.{Recorded, figuresIn, planKind, costOffset, bucketsOffset, planLength, longestPlan, countsOk, planWords, planBytes, recordBytes, recordAt, recordsIn, planIn, readPlan, planFile, writePlan, VeryPlan}
+use Rattle.plan_file.specs.PlanRules.{PlanRules, CountsRange, counts-ok, counts-range, planPlaced, plan-foreign, plan-misplaced, plan-periods, bucketsIn, recordedIn, rules-read, read-rules, read-fits, read-holds, write-figures, write-rules, length-head, length-record, length-plan}
 
 -- ---- One record
 
@@ -197,3 +201,34 @@ very-plan bs h room (figures x) e =
     let n = length (x .buckets) in
     read-write bs h x (read-holds room bs x e) (x .buckets) (take-all n (x .buckets) (le-refl n)) (le-refl n) (length bs) (le-refl (length bs))
 very-plan bs h room (refused m) e = tt
+
+-- ---- Other bytes behind a plan
+
+-- A plan of more bytes than the longest has is refused by its header alone.
+headerRefusal : List ℕ → ℕ
+headerRefusal bs = cond (eqb (numberAt 4 bs 0) planKind) (cond (countsOk (numberAt 4 bs 4) (numberAt 4 bs 8)) 4 3) 2
+
+long-plan : (bs : List ℕ) → longestPlan < length bs → planIn bs ≡ refused (headerRefusal bs)
+unfolding headerRefusal
+long-plan bs l = go (eqb (numberAt 4 bs 0) planKind) (countsOk (numberAt 4 bs 4) (numberAt 4 bs 8)) refl refl
+  where
+    long : leb costOffset (length bs) ≡ true
+    long = le-leb costOffset (length bs) (omega (arith, l))
+
+    go : (k c : Bool) → eqb (numberAt 4 bs 0) planKind ≡ k → countsOk (numberAt 4 bs 4) (numberAt 4 bs 8) ≡ c → planIn bs ≡ refused (cond k (cond c 4 3) 2)
+    go false c e f = plan-foreign bs long e
+    go true false e f = plan-periods bs long e f
+    go true true e f =
+        let r = counts-range (numberAt 4 bs 4) (numberAt 4 bs 8) f in
+        let not : planPlaced bs ≡ true → ⊥ = λ h. omega (arith, l, placed-range 12 costOffset bucketsOffset (planLength (numberAt 4 bs 8)) bs h .bytes, r .few, r .periods .few) in
+        plan-misplaced bs long e f (not-true-false (planPlaced bs) not)
+
+-- So bytes that follow change nothing.
+pub long-more : (bs more : List ℕ) → longestPlan < length bs → planIn (bs ++ more) ≡ planIn bs
+unfolding headerRefusal
+long-more bs more l =
+    let same : (at : ℕ) → at + 4 ≤ costOffset → numberAt 4 (bs ++ more) at ≡ numberAt 4 bs at = λ at h. number-front 4 bs more at (omega (arith, l, h)) in
+    let header : headerRefusal (bs ++ more) ≡ headerRefusal bs =
+    ap (λ (kind : ℕ). cond (eqb kind planKind) (cond (countsOk (numberAt 4 (bs ++ more) 4) (numberAt 4 (bs ++ more) 8)) 4 3) 2) (same 0 (omega arith))
+    ∙ ap₂ (λ (T k : ℕ). cond (eqb (numberAt 4 bs 0) planKind) (cond (countsOk T k) 4 3) 2) (same 4 (omega arith)) (same 8 (omega arith)) in
+    long-plan (bs ++ more) (omega (arith, l, length-append bs more)) ∙ ap refused header ∙ sym (long-plan bs l)
