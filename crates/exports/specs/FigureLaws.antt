@@ -48,8 +48,9 @@ use Rattle.sheets.specs.SheetLaws.{sheet-short}
 use Rattle.text.specs.Fitted.{fitted}
 use Rattle.text.specs.Lines.{singleLine, trialLine}
 use Rattle.text.specs.LineLaws.{longestSingle, longestTrial, trial-short}
+use Rattle.checking.specs.Check.{Verdict, yes, no, checkOf}
 use Rattle.typed_figures.specs.Figures.{tariffFigures, tariffOf}
-use Rattle.exports.specs.Answers.{refusedFrom, coded, orderFrom, plannedCost, planFileIn, meterIn}
+use Rattle.exports.specs.Answers.{refusedFrom, coded, orderFrom, plannedCost, planFileIn, verdictCode, meterIn}
 
 -- The figures of an answer are below the refusals.
 abbrev pub Below : Answer ℕ → Type 0
@@ -191,6 +192,15 @@ plan-below room bs n e =
     let w = weigh-figures (leb (length (a .0 .buckets)) room) 6 (figures (a .0)) (a .2) in
     let r = read-rules bs (a .0) (a .1) in
     omega (arith, g .2, ap (λ (x : plan.Recorded). x .cost) (same-figures (w .1)), ap (λ (x : plan.Recorded). x .cost) (r .1), r .0 .cost)
+
+-- ---- Checks
+
+verdict-small : (v : Verdict) → verdictCode v ≤ 1
+verdict-small (yes excess) = omega arith
+verdict-small no = omega arith
+
+pub check-below : (order plan : List ℕ) → Below (onFigures verdictCode (checkOf order plan))
+check-below order plan n e = let g = on-figures verdictCode (checkOf order plan) e in omega (arith, g .2, verdict-small (g .0))
 
 -- ---- Meters
 

@@ -48,9 +48,13 @@ bucketFields b = ended (megabits (pos (b .rate .0))) space ++ ended (megabits (p
 abbrev pub bucketLine : ℕ → ℕ → Bucket → ℤ → List ℕ
 bucketLine first last b spare = ended (numeral first) space ++ ended (numeral last) space ++ bucketFields b ++ ended (megabits spare) newline
 
+-- A word, a space and a plain number.
+abbrev pub numberLine : List ℕ → ℕ → List ℕ
+numberLine word number = ended word space ++ ended (numeral number) newline
+
 -- The word refused, a space and the number.
 abbrev pub refusalLine : ℕ → List ℕ
-refusalLine number = ended refusedWord space ++ ended (numeral number) newline
+refusalLine = numberLine refusedWord
 
 -- A trial: the word trial, spare and discards, both in megabits.
 abbrev pub trialLine : ℤ → ℕ → List ℕ
@@ -62,7 +66,7 @@ singleLine b cost = ended singleWord space ++ bucketFields b ++ ended (numeral c
 
 -- A check that ends with yes: the word yes, a space and the excess, a plain number as the cost is.
 abbrev pub yesLine : ℕ → List ℕ
-yesLine excess = ended yesWord space ++ ended (numeral excess) newline
+yesLine = numberLine yesWord
 
 -- One that ends with no.
 abbrev pub noLine : List ℕ

@@ -7,7 +7,7 @@ use crate::numerals::put_number;
 use terms::Bucket;
 ghost use Prim.Native.Nat.{_+_, _≤_};
 ghost use lib.ListN.{length};
-ghost use Rattle.text.specs.Lines.{bucketFields, bucketLine, planLine, refusalLine, singleLine, trialLine, yesLine};
+ghost use Rattle.text.specs.Lines.{bucketFields, bucketLine, numberLine, planLine, refusalLine, singleLine, trialLine, yesLine};
 ghost use Rattle.text.specs.PutLaws.{Puts};
 
 // The sheet's first line.
@@ -48,13 +48,21 @@ pub fn put_bucket_line(
     put_figure(text, end, spare, b'\n')
 }
 
+// A line of a word and a number.
+fn put_number_line(text: &mut [u8], at: usize, word: &[u8], number: u64) -> usize
+    requires { ⌜ at + length (numberLine (now word) number) ≤ length (now text) ⌝ }
+    ensures { λ r. ⌜ Puts (now (text .entry)) at (numberLine (now (word .entry)) number) (now (text .exit)) r ⌝ }
+{
+    let end = put_word(text, at, word, b' ');
+    put_number(text, end, number, b'\n')
+}
+
 // The line of a refusal.
 pub fn put_refusal_line(text: &mut [u8], at: usize, number: u32) -> usize
     requires { ⌜ at + length (refusalLine number) ≤ length (now text) ⌝ }
     ensures { λ r. ⌜ Puts (now (text .entry)) at (refusalLine number) (now (text .exit)) r ⌝ }
 {
-    let end = put_word(text, at, b"refused", b' ');
-    put_number(text, end, number as u64, b'\n')
+    put_number_line(text, at, b"refused", number as u64)
 }
 
 // The line of a trial.
@@ -82,6 +90,5 @@ pub fn put_yes_line(text: &mut [u8], at: usize, excess: u64) -> usize
     requires { ⌜ at + length (yesLine excess) ≤ length (now text) ⌝ }
     ensures { λ r. ⌜ Puts (now (text .entry)) at (yesLine excess) (now (text .exit)) r ⌝ }
 {
-    let end = put_word(text, at, b"yes", b' ');
-    put_number(text, end, excess, b'\n')
+    put_number_line(text, at, b"yes", excess)
 }

@@ -2,20 +2,17 @@
 use Prim.Native.Nat.{ℕ}
 use mathlib.Core.List.{List}
 use borrow.Author.Needs.{needs}
-use Rattle.text.specs.Lines.{newline, refusedWord, space}
+use Rattle.text.specs.Lines.{newline, space}
 use Rattle.text.specs.Numeral.{ended, numeral}
 use Rattle.text.specs.ChainLaws.{first-of-two, second-of-two, two}
-use Rattle.text.proofs.lines.put_refusal_line.Statement.{statement}
-use Rattle.text.proofs.lines.put_refusal_line.Tie as tie
+use Rattle.text.proofs.lines.put_number_line.Statement.{statement}
+use Rattle.text.proofs.lines.put_number_line.Tie as tie
 
 abbrev field₁ : tie.Start → List ℕ
-field₁ s = ended refusedWord space
+field₁ s = ended (s .args .word .now) space
 
 abbrev field₂ : tie.Start → List ℕ
 field₂ s = ended (numeral (s .args .number)) newline
-
-slice-aggregate-put-word : tie.Need-slice-aggregate-put-word
-slice-aggregate-put-word c = search needs
 
 put-word-requires : tie.Need-put-word-requires
 put-word-requires c κs =
@@ -38,7 +35,7 @@ returns c =
     let s = c1 .before .before .before .before in
     two (s .args .text .now) (s .args .at) (field₁ s) (field₂ s) (c1 .put-word .ensures) (c2 .put-number .ensures)
 
-pub put-refusal-line-spec : {M : Type 1} → statement M
-put-refusal-line-spec =
+pub put-number-line-spec : {M : Type 1} → statement M
+put-number-line-spec =
     tie.close
-    (tie.spec slice-aggregate-put-word put-word-requires put-number-requires same-length returns)
+    (tie.spec put-word-requires put-number-requires same-length returns)
