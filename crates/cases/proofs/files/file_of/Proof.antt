@@ -7,10 +7,10 @@ use Rattle.cases.proofs.files.file_of.Statement.{statement}
 use Rattle.cases.proofs.files.file_of.Tie as tie
 
 abbrev Inv-loop : tie.InvT-loop
-Inv-loop field bytes₀ i₀ bytes i = (i ≤ 64) × (64 ≡ length bytes)
+Inv-loop field bytes₀ i₀ bytes i = (i ≤ 128) × (128 ≡ length bytes)
 
 abbrev μ-loop : tie.MeasureT-loop
-μ-loop field bytes₀ i₀ bytes i = 64 - i
+μ-loop field bytes₀ i₀ bytes i = 128 - i
 
 pub file-of-spec : {M : Type 1} → statement M
 file-of-spec =
