@@ -17,8 +17,12 @@ pub fn edges() {
     around(Refusal::NoPlan);
     around(Refusal::Meter);
     around(Refusal::Full);
+    line_in(Refusal::Unequal, 10);
+    line_in(Refusal::Unequal, 11);
+    line_in(Refusal::Unequal, 12);
 }
 
+// A line with one digit.
 fn around(why: Refusal) {
     line_in(why, 9);
     line_in(why, 10);
