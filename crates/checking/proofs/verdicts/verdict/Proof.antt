@@ -7,7 +7,7 @@ use Rattle.terms.specs.Bools.{check-passed, check-failed}
 use Rattle.series.specs.Series.{seriesSays}
 use Rattle.plan_file.specs.Plan.{Recorded}
 use Rattle.checking.specs.Check.{leastCost, planOk}
-use Rattle.checking.specs.CheckLaws.{holds-least, least-planned, verdict-is}
+use Rattle.checking.specs.VerdictLaws.{holds-least, least-planned, verdict-is}
 use Rattle.checking.specs.WeighLaws.{statedPlan}
 use borrow.Author.Needs.{needs}
 use Rattle.checking.proofs.verdicts.verdict.Statement.{statement}
