@@ -17,7 +17,6 @@ fn main() {
     let mut input = io::large_buffer();
     let length = read_all(&mut input, b"sheet_edges: standard input");
     each_case(&input[..length]);
-    refusals::edges();
     small::orders();
     damaged::edges();
     long::edges();
@@ -32,6 +31,7 @@ fn each_case(input: &[u8]) {
 fn case(line: &[u8]) {
     match first(line) {
         b'f' => figures::figure_case(line),
+        b'r' => refusals::refusal_case(line),
         b's' => service_texts::services_case(line),
         b'#' => {}
         _ => report::words(b"no such case\n"),

@@ -1,5 +1,7 @@
-// The line of every refusal, in a text one byte too short, just long enough and longer.
+// The line of a refusal in a text with so much room.
 use crate::service_texts::print;
+use cases::field;
+use cases::figure;
 use samples::file_bytes::LENT;
 use samples::file_bytes::LENT_BYTES;
 use samples::file_bytes::lent_front;
@@ -7,32 +9,28 @@ use terms::Refusal;
 use terms::refusal_number;
 use text::refusal_line;
 
-pub fn edges() {
-    around(Refusal::Short);
-    around(Refusal::Foreign);
-    around(Refusal::Periods);
-    around(Refusal::Misplaced);
-    around(Refusal::Figure);
-    around(Refusal::List);
-    around(Refusal::NoPlan);
-    around(Refusal::Meter);
-    around(Refusal::Full);
-    line_in(Refusal::Unequal, 10);
-    line_in(Refusal::Unequal, 11);
-    line_in(Refusal::Unequal, 12);
-}
-
-// A line with one digit.
-fn around(why: Refusal) {
-    line_in(why, 9);
-    line_in(why, 10);
-    line_in(why, 11);
-}
-
-fn line_in(why: Refusal, room: usize) {
+pub fn refusal_case(line: &[u8]) {
+    let why = numbered(figure(field(line, 1), 0));
+    let room = figure(field(line, 2), 0) as usize;
     let mut text = [LENT; LENT_BYTES];
     let answer = refusal_line(why, lent_front(&mut text, room));
     report::figure(b"refusal", refusal_number(why) as u64);
     report::figure(b" in", room as u64);
     print(answer, &text);
+}
+
+// The refusal with a number; the first where there is none.
+fn numbered(number: u32) -> Refusal {
+    match number {
+        2 => Refusal::Foreign,
+        3 => Refusal::Periods,
+        4 => Refusal::Misplaced,
+        5 => Refusal::Figure,
+        6 => Refusal::List,
+        7 => Refusal::NoPlan,
+        8 => Refusal::Meter,
+        9 => Refusal::Full,
+        10 => Refusal::Unequal,
+        _ => Refusal::Short,
+    }
 }
