@@ -27,7 +27,7 @@ use Rattle.plan_file.specs.RecordLaws.{RecordsRange}
 use Rattle.booking.specs.BookingLaws.{order-demands}
 use Rattle.booking.specs.Claim.{periodsIn, demandsAt, CarriedIn, costIn}
 use Rattle.checking.specs.Check.{Verdict, yes, no, planOk, leastCost, excessOver, verdictOf, compared, checkOf, checkIn, checkFiles}
-use Rattle.checking.specs.VerdictLaws.{Least, holds-is, holds-least, is-holds, least-found, least-is, no-yes, yes-of}
+use Rattle.checking.specs.VerdictLaws.{IsLeast, holds-is, holds-least, is-holds, least-found, least-is, no-yes, yes-of}
 
 module _ (order : List ℕ) where
   abbrev t : Tariff
@@ -122,7 +122,7 @@ module _ (order : List ℕ) where
           (given .is-order, record { stated = given .stated; is-read = given .is-plan; same-periods = given .same-periods; carried = h .carried; true-cost = h .true-cost })
 
       -- The excess is what the plan's true cost has over the least.
-      pub yes-excess : (y : Recorded) → planIn plan ≡ figures y → (m : ℕ) × (costIn order (y .buckets) ≡ m + n) × Least t ds m
+      pub yes-excess : (y : Recorded) → planIn plan ≡ figures y → (m : ℕ) × (costIn order (y .buckets) ≡ m + n) × IsLeast t ds m
       yes-excess y f =
           let x = given .stated in
           let m = found .1 .0 in

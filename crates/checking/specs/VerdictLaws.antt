@@ -59,11 +59,11 @@ module _ (t : Tariff) where
 
 module _ (t : Tariff) (ds : List ℕ) where
   -- m is the least cost of a carried cutting.
-  pub record Least (m : ℕ) : Type 0 where
+  pub record IsLeast (m : ℕ) : Type 0 where
     pub reached : (xs : Cutting) × Carried t ds xs × (trueCost t xs ≡ m)
     pub least : (ys : Cutting) → Carried t ds ys → m ≤ trueCost t ys
 
-  pub least-is : (m : ℕ) → leastCost t ds ≡ figures m → Least m
+  pub least-is : (m : ℕ) → leastCost t ds ≡ figures m → IsLeast m
   least-is m e =
       let f = on-figures (trueCost t) (seriesOf t traceLimit ds) e in
       let c = series-cheapest t ds traceLimit (f .0) (f .1) in

@@ -14,11 +14,11 @@ pub extern "C" fn metqoraz_check(order: &[u8], plan: &[u8], excess: &mut u64) ->
     ensures { λ r. ⌜ r ≡ coded (onFigures verdictCode (checkOf (now (order .entry)) (now (plan .entry)))) ⌝ }
     ensures { λ _. ⌜ now (excess .exit) ≡ excessOr (checkOf (now (order .entry)) (now (plan .entry))) (now (excess .entry)) ⌝ }
 {
-    let over = match check(order, plan) {
+    let found = match check(order, plan) {
         CheckAnswer::Yes(x) => x,
         CheckAnswer::No => return 0,
         CheckAnswer::Refused(why) => return coded_refusal(why),
     };
-    *excess = over;
+    *excess = found;
     1
 }
