@@ -25,10 +25,11 @@ use Rattle.series.specs.OutlineLaws.{carried-count, carried-cost}
 use Rattle.encoding.specs.Number.{valueOf, numberAt, itemsAt}
 use Rattle.encoding.specs.NumberLaws.{Bytes, fit-head, fit-tail, fit-drop}
 use Rattle.order_file.specs.declared.orders.Order.{Order}
-use Rattle.order_file.specs.Order.{traceOffset, tariffIn, readOrder, tracePart, demandsIn}
-use Rattle.order_file.specs.OrderLaws.{demands-count}
+use Rattle.order_file.specs.Order.{traceOffset, tariffIn, orderIn, readOrder, tracePart, demandsIn}
+use Rattle.order_file.specs.OrderLaws.{demands-count, read-spread}
 use Rattle.order_file.specs.OrderRules.{read-rules, part-read, length-demands}
-use Rattle.order_file.specs.OrderedLaws.{spread-demands, ordered-as}
+use Rattle.order_file.specs.Ordered.{ordered}
+use Rattle.order_file.specs.OrderedLaws.{found-ordered, spread-demands, ordered-as}
 use Rattle.plan_file.specs.PlanRules.{CountsRange}
 use Rattle.plan_file.specs.RecordLaws.{RecordsRange}
 use Rattle.record_list.specs.Held.{noRecord}
@@ -79,6 +80,13 @@ module _ (bs : List ℕ) (o : Order) (e : readOrder bs ≡ figures o) where
       ap₂ (λ (ys : List ℕ) (m : ℕ). itemsAt (numberAt 2 ys) 2 m 0) (part-read bs o e) n
       ∙ items-part (numberAt 2 bs) (numberAt 2 (drop traceOffset bs)) traceOffset 2 (periodsIn bs) 0
       (λ i. ap (λ (ys : List ℕ). valueOf (take 2 ys)) (drop-drop i traceOffset bs))
+
+  -- So with room for them reading and spreading give the figures and the demands in the bytes.
+  pub order-spread : (space : ℕ) → periodsIn bs ≤ space → ordered space bs ≡ figures (record { order = orderIn bs; demands = demandsAt bs })
+  order-spread space l =
+      let is : o ≡ orderIn bs = read-rules bs o e .1 in
+      let spread = read-spread bs o e space (subst (λ (x : Order). x .periods ≤ space) (sym is) l) ∙ ap figures order-demands in
+      found-ordered space bs (record { order = orderIn bs; demands = demandsAt bs }) (record { read = e ∙ ap figures is; spread = spread })
 
 -- ---- The order read, spread and planned
 

@@ -20,11 +20,10 @@ use Rattle.series.specs.Series.{Carried, seriesOf}
 use Rattle.series.specs.SeriesLaws.{series-none, series-refuses}
 use Rattle.encoding.specs.NumberLaws.{Bytes}
 use Rattle.order_file.specs.declared.orders.Order.{Order}
-use Rattle.order_file.specs.Order.{tariffIn, orderIn, readOrder, OrderRules, tracePart, spreadOf}
-use Rattle.order_file.specs.OrderLaws.{demands-count, read-spread}
+use Rattle.order_file.specs.Order.{tariffIn, orderIn, readOrder, OrderRules}
+use Rattle.order_file.specs.OrderLaws.{demands-count}
 use Rattle.order_file.specs.OrderRules.{rules-read, read-rules}
-use Rattle.order_file.specs.Ordered.{Ordered, ordered}
-use Rattle.order_file.specs.OrderedLaws.{found-ordered}
+use Rattle.order_file.specs.Ordered.{ordered}
 use Rattle.plan_file.specs.Plan.{planFile, planIn}
 use Rattle.plan_file.specs.PlanRules.{read-holds}
 use Rattle.planning.specs.Planning.{Planned, plannedRuns}
@@ -32,7 +31,7 @@ use Rattle.planning.specs.PlannedLaws.{IsPlanned, is-planned}
 use Rattle.recording.specs.declared.recorded.Booking.{Booking}
 use Rattle.recording.specs.Recording.{recording}
 use Rattle.booking.specs.Booking.{Lent, Steps, plannedFor, planFigures, recordingFor, booked, answerOf, lentAfter}
-use Rattle.booking.specs.BookingLaws.{order-demands, planned-series}
+use Rattle.booking.specs.BookingLaws.{order-demands, order-spread, planned-series}
 use Rattle.booking.specs.Claim.{periodsIn, demandsAt, CarriedIn, IsSeriesAnswer, LongEnough, InsideCaps, Kept, Demand3, Claim}
 use Rattle.booking.specs.CallLaws.{Sizes, sizesOf, writtenIn, recordingIn, bookedIn}
 use Rattle.booking.specs.StepLaws.{fileOf, recordingOf, file-fits, written-read, planned-meters, planned-short, steps-figures}
@@ -80,16 +79,10 @@ module _ (bs : List ℕ) (h : Bytes bs) (old after : Lent) (answer : Answer Book
     abbrev z : Sizes
     z = sizesOf old
 
-    spreads : spreadOf (length (old .demands)) (tracePart bs) ≡ figures ds
-    spreads =
-        read-spread bs o e (length (old .demands)) (subst (λ (x : Order). x .periods ≤ length (old .demands)) (sym order-is) (long .spreading))
-        ∙ ap figures (order-demands bs o e)
-
     -- planning rests with the series call
     planned-so : plannedFor old bs ≡ plannedRuns (orderIn bs) ds (length (old .plan))
     planned-so =
-        let x : Ordered = record { order = orderIn bs; demands = ds } in
-        let f = found-ordered (length (old .demands)) bs x (record { read = e ∙ ap figures order-is; spread = spreads }) in
+        let f = order-spread bs o e (length (old .demands)) (long .spreading) in
         sym (then-figures (ordered (length (old .demands)) bs) (λ y. plannedRuns (y .order) (y .demands) (length (old .plan))) f)
 
     count : length ds ≡ periodsIn bs

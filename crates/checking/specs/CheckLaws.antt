@@ -18,13 +18,13 @@ use Rattle.series.specs.Series.{trueCost}
 use Rattle.order_file.specs.declared.orders.Order.{Order}
 use Rattle.order_file.specs.Order.{orderIn, readOrder, tariffIn}
 use Rattle.order_file.specs.Ordered.{Ordered, ordered}
-use Rattle.order_file.specs.OrderLaws.{first-file, read-spread, second-file}
+use Rattle.order_file.specs.OrderLaws.{first-file, second-file}
 use Rattle.order_file.specs.OrderRules.{read-rules}
-use Rattle.order_file.specs.OrderedLaws.{IsOrdered, is-ordered, found-ordered, ordered-as, ordered-count, ordered-range, spread-demands}
+use Rattle.order_file.specs.OrderedLaws.{IsOrdered, is-ordered, ordered-as, ordered-count, ordered-range}
 use Rattle.plan_file.specs.Plan.{Recorded, planIn}
 use Rattle.plan_file.specs.PlanRules.{read-rules as plan-rules}
 use Rattle.plan_file.specs.RecordLaws.{RecordsRange}
-use Rattle.booking.specs.BookingLaws.{order-demands}
+use Rattle.booking.specs.BookingLaws.{order-spread}
 use Rattle.booking.specs.Claim.{periodsIn, demandsAt, CarriedIn, costIn}
 use Rattle.checking.specs.Check.{Verdict, yes, no, planOk, leastCost, excessOver, verdictOf, compared, checkOf, checkIn, checkFiles}
 use Rattle.checking.specs.VerdictLaws.{IsLeast, holds-is, holds-least, is-holds, least-found, least-is, no-yes, yes-of}
@@ -40,21 +40,12 @@ module _ (order : List ℕ) where
   abbrev spread : Ordered
   spread = record { order = orderIn order; demands = ds }
 
-  spread-is : (x : Ordered) → IsOrdered traceLimit order x → x ≡ spread
-  spread-is x p = ap₂ (λ (o : Order) (es : List ℕ). record { order = o; demands = es }) (ordered-as p) (sym (spread-demands p) ∙ order-demands order (x .order) (p .read))
-
   module _ (o : Order) (e : readOrder order ≡ figures o) where
-    order-is : o ≡ orderIn order
-    order-is = read-rules order o e .1
-
-    few : o .periods ≤ traceLimit
-    few = omega (arith, read-rules order o e .0 .periods .few, ap (λ (x : Order). x .periods) order-is)
+    order-found : ordered traceLimit order ≡ figures spread
+    order-found = order-spread order o e traceLimit (read-rules order o e .0 .periods .few)
 
     is-spread : IsOrdered traceLimit order spread
-    is-spread = record { read = e ∙ ap figures order-is; spread = read-spread order o e traceLimit few ∙ ap figures (order-demands order o e) }
-
-    order-found : ordered traceLimit order ≡ figures spread
-    order-found = found-ordered traceLimit order spread is-spread
+    is-spread = is-ordered traceLimit order spread order-found
 
   module _ (plan : List ℕ) where
     -- The plan's file is right for the order's: it carries each run of the demands in the order file and keeps to the
@@ -79,7 +70,7 @@ module _ (order : List ℕ) where
         let a = then-found (ordered traceLimit order) (λ x. andThen (planIn plan) (compared x)) e in
         let x = a .0 in
         let p = is-ordered traceLimit order x (a .1) in
-        let is : x ≡ spread = spread-is x p in
+        let is : x ≡ spread = same-figures (sym (a .1) ∙ order-found (x .order) (p .read)) in
         let b = then-found (planIn plan) (compared x) (a .2) in
         let c = weigh-figures (eqb (b .0 .periods) (x .order .periods)) 10 _ (b .2) in
         record {
