@@ -3,8 +3,8 @@
 -- Assumes nothing.
 use Prim.Native.Nat.{ℕ, _+_, _-_, _≤_}
 use native.Mathlib.Omega.{arith}
-use mathlib.Core.Path.{_≡_, sym, ap, ap₂, subst, _∙_}
-use mathlib.Core.Bool.{Bool, true, cond}
+use mathlib.Core.Path.{_≡_, refl, sym, ap, ap₂, subst, _∙_}
+use mathlib.Core.Bool.{Bool, true, false, cond}
 use mathlib.Core.List.{List, _++_}
 use borrow.Author.Tests.{eqb-true, eq-eqb}
 use lib.Dec.{eqb}
@@ -94,6 +94,14 @@ module _ (order : List ℕ) where
           sym (then-figures (ordered traceLimit order) (λ x. andThen (planIn plan) (compared x)) (order-found o e))
           ∙ sym (then-figures (planIn plan) (compared spread) f)
           ∙ ap (λ (ok : Bool). weigh ok 10 (figures (verdictOf t ds y))) (eq-eqb _ _ g)
+
+      -- An order without any plan says no to every plan, and never 7.
+      pub none-no : ((xs : Cutting) → CarriedIn order xs → ⊥) → checkOf order plan ≡ figures no
+      none-no none = check-is ∙ ap figures (go (planOk t ds y) refl)
+        where
+          go : (ok : Bool) → planOk t ds y ≡ ok → verdictOf t ds y ≡ no
+          go true h = absurd (none (y .buckets) (holds-is t ds y plan-range h .carried))
+          go false h = ap (λ (ok : Bool). cond ok (excessOver (leastCost t ds) (y .cost)) no) h
 
     -- ---- A yes is given exactly when all of it holds
 
