@@ -23,7 +23,7 @@ fn put_file(room: &mut [u8; JOINED_BYTES], from: usize, file: &[u8]) -> usize {
     place
 }
 
-// The files that were stored.
+// The files that were stored, by the array's type: a call that has written to an array promises no length.
 pub fn joined(room: &[u8; JOINED_BYTES], length: usize) -> &[u8] {
     front(room, length)
 }

@@ -3,10 +3,9 @@
 use Prim.Native.Nat.{ℕ, _-_, _≤_}
 use native.Mathlib.Omega.{arith}
 use mathlib.Core.Path.{_≡_, sym, ap, ap₂, subst, _∙_}
-use mathlib.Core.Bool.{Bool, true, false}
+use mathlib.Core.Bool.{Bool}
 use mathlib.Core.List.{List}
 use borrow.Author.Tests.{eq-eqb, ne-eqb}
-use lib.Dec.{eqb}
 use lib.ListN.{length, take, drop, length-drop}
 use lib.Seq.{take-all}
 use Rattle.terms.specs.Answer.{Answer, figures, refused, andThen, weigh}
@@ -21,7 +20,7 @@ use Rattle.order_file.specs.Ordered.{Ordered, ordered}
 use Rattle.order_file.specs.OrderedLaws.{is-ordered, ordered-count, ordered-range}
 use Rattle.plan_file.specs.declared.answers.PlanFigures.{PlanFigures}
 use Rattle.plan_file.specs.Plan.{Recorded, bucketsOf, figuresIn, planIn, readPlan, recordedFigures}
-use Rattle.plan_file.specs.PlanRules.{plan-few, read-rules, read-whole}
+use Rattle.plan_file.specs.PlanRules.{plan-few, read-range, read-whole}
 use Rattle.plan_file.specs.RecordLaws.{RecordsRange}
 use Rattle.checking.specs.Check.{Verdict, verdictOf, compared, checkOf, checkIn, checkFiles}
 use Rattle.checking.specs.WeighLaws.{Weighable, statedPlan}
@@ -70,13 +69,11 @@ module _ (order plan : List ℕ) where
         weighable =
             let p = is-ordered traceLimit order x e in
             let r = ordered-range p in
-            let q = read-rules plan (statedPlan y records) is-stated in
-            let ranges = subst (λ (w : Recorded). RecordsRange (w .periods) (w .buckets)) (sym (q .1)) (q .0 .records) in
             record {
               tariff = r .1;
               periods = r .0;
               count = plan-few plan y (sym f ∙ answer-is);
-              ranges = subst (λ (T : ℕ). RecordsRange T (take (y .buckets) records)) (h ∙ sym (ordered-count p)) ranges;
+              ranges = subst (λ (T : ℕ). RecordsRange T (take (y .buckets) records)) (h ∙ sym (ordered-count p)) (read-range plan (statedPlan y records) is-stated);
             }
 
         pub check-past : figures (verdictOf (x .order .tariff) (x .demands) (statedPlan y records)) ≡ checkOf order plan

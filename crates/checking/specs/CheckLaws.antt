@@ -22,7 +22,7 @@ use Rattle.order_file.specs.OrderLaws.{first-file, second-file}
 use Rattle.order_file.specs.OrderRules.{read-rules}
 use Rattle.order_file.specs.OrderedLaws.{IsOrdered, is-ordered, ordered-as, ordered-count, ordered-range}
 use Rattle.plan_file.specs.Plan.{Recorded, planIn}
-use Rattle.plan_file.specs.PlanRules.{read-rules as plan-rules}
+use Rattle.plan_file.specs.PlanRules.{read-range}
 use Rattle.plan_file.specs.RecordLaws.{RecordsRange}
 use Rattle.booking.specs.BookingLaws.{order-spread}
 use Rattle.booking.specs.Claim.{periodsIn, demandsAt, CarriedIn, costIn}
@@ -85,9 +85,8 @@ module _ (order : List ℕ) where
     module _ (o : Order) (e : readOrder order ≡ figures o) (y : Recorded) (f : planIn plan ≡ figures y) (g : y .periods ≡ periodsIn order) where
       pub plan-range : RecordsRange (length ds) (y .buckets)
       plan-range =
-          let r = plan-rules plan y f in
           let n : length ds ≡ periodsIn order = ordered-count (is-spread o e) in
-          subst (λ (T : ℕ). RecordsRange T (y .buckets)) (g ∙ sym n) (subst (λ (z : Recorded). RecordsRange (z .periods) (z .buckets)) (sym (r .1)) (r .0 .records))
+          subst (λ (T : ℕ). RecordsRange T (y .buckets)) (g ∙ sym n) (read-range plan y f)
 
       check-is : checkOf order plan ≡ figures (verdictOf t ds y)
       check-is =

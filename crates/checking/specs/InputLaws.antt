@@ -17,7 +17,7 @@ use Rattle.encoding.specs.Number.{numberAt}
 use Rattle.encoding.specs.NumberLaws.{number-front}
 use Rattle.order_file.specs.Order.{tariffOffset, orderLength, orderEnd, readOrder}
 use Rattle.order_file.specs.OrderLaws.{long-more as long-order}
-use Rattle.order_file.specs.Ordered.{Ordered, ordered}
+use Rattle.order_file.specs.Ordered.{ordered}
 use Rattle.plan_file.specs.Plan.{Recorded, longestPlan, planIn}
 use Rattle.plan_file.specs.PlanLaws.{long-more as long-plan}
 use Rattle.text.specs.Fitted.{fitted}

@@ -16,7 +16,7 @@ use Rattle.terms.specs.RangeRules.{BucketRange, FreshRange, PeriodsRange, Recor
 use Rattle.terms.specs.Records.{Cutting, runLength, total}
 use Rattle.single.specs.Cost.{costOf}
 use Rattle.single.specs.CostLaws.{periodLimit, cost-le}
-use Rattle.series.specs.Series.{runCost, trueCost}
+use Rattle.series.specs.Series.{trueCost}
 use Rattle.record_list.specs.Held.{noRecord}
 use Rattle.record_list.specs.PartLaws.{Begins, first-begins, next-begins, rest, rest-next, rest-none, run-inside}
 use Rattle.plan_file.specs.declared.answers.PlanFigures.{PlanFigures}

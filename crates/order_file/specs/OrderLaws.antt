@@ -5,7 +5,7 @@ use Prim.Native.Nat.{ℕ, _+_, _*_, _/_, _%_, _≤_, _<_}
 use native.Mathlib.Omega.{arith}
 use native.Mathlib.Nat.{le-refl, mul-div-right, mul-mod-right, zero-lt-suc}
 use mathlib.Core.Path.{_≡_, refl, sym, ap, ap₂, subst, _∙_}
-use mathlib.Core.Bool.{Bool, true, false, cond}
+use mathlib.Core.Bool.{true, false}
 use mathlib.Core.List.{List, [], _∷_, _++_, append-nil}
 use borrow.Author.Tests.{le-leb, eq-eqb}
 use lib.Dec.{leb, eqb}
@@ -24,9 +24,9 @@ use Rattle.order_file.specs.declared.orders.Order.{Order}
 use Rattle.encoding.specs.Number.{bytesOf, numberAt, bytesOfAll, itemsAt}
 use Rattle.encoding.specs.NumberLaws.{Within, Fit, Bytes, fit-drop, fit-each, length-bytes, length-all, number-front, numbers-written, numbers-read}
 use Rattle.encoding.specs.Header.{Placed}
-use Rattle.encoding.specs.HeaderLaws.{placed-range}
+use Rattle.encoding.specs.HeaderLaws.{headed, header-decides, header-number, placed-range}
 use Rattle.order_file.specs.Order.{orderKind, orderLength, orderWords, orderBytes, tariffOffset, traceOffset, tariffIn, readOrder, OrderRules, tracePart, partOk, demandsIn, spreadOf, orderEnd, writeOrder, VeryOrder}
-use Rattle.order_file.specs.OrderRules.{orderPlaced, order-foreign, order-misplaced, order-periods, rules-read, read-rules, part-read, spread-figures, length-header, length-order, length-demands, write-figures}
+use Rattle.order_file.specs.OrderRules.{orderPlaced, rules-read, read-rules, part-read, spread-figures, length-header, length-order, length-demands, write-figures}
 
 -- ---- The words of an order
 
@@ -235,32 +235,27 @@ module _ (bs more : List ℕ) (o : Order) (e : readOrder bs ≡ figures o) where
   pub second-file : drop (orderEnd (bs ++ more)) (bs ++ more) ≡ more
   second-file = ap (λ (n : ℕ). drop n (bs ++ more)) end-is ∙ drop-append-seam bs more
 
--- An order that states more bytes than the longest has is refused by its header alone.
-headerRefusal : List ℕ → ℕ
-headerRefusal bs = cond (eqb (numberAt 4 bs 0) orderKind) (cond (periodsOk (numberAt 4 bs 4)) 4 3) 2
+-- An order that states more bytes than the longest has is refused by its header alone, so bytes that follow change
+-- nothing.
+abbrev byHeader : ℕ → ℕ → Answer Order
+byHeader kind T = headed (eqb kind orderKind) (periodsOk T)
 
-long-order : (bs : List ℕ) → tariffOffset ≤ length bs → orderLength traceLimit < numberAt 4 bs 16 → readOrder bs ≡ refused (headerRefusal bs)
-unfolding headerRefusal
-long-order bs l s = go (eqb (numberAt 4 bs 0) orderKind) (periodsOk (numberAt 4 bs 4)) refl refl
+long-order : (bs : List ℕ) → tariffOffset ≤ length bs → orderLength traceLimit < numberAt 4 bs 16 → readOrder bs ≡ byHeader (numberAt 4 bs 0) (numberAt 4 bs 4)
+unfolding readOrder
+long-order bs l s = header-decides (leb tariffOffset (length bs)) (eqb (numberAt 4 bs 0) orderKind) (periodsOk (numberAt 4 bs 4)) (orderPlaced bs) _ (le-leb tariffOffset (length bs) l) misplaced
   where
-    long : leb tariffOffset (length bs) ≡ true
-    long = le-leb _ _ l
-
-    go : (k p : Bool) → eqb (numberAt 4 bs 0) orderKind ≡ k → periodsOk (numberAt 4 bs 4) ≡ p → readOrder bs ≡ refused (cond k (cond p 4 3) 2)
-    go false p e f = order-foreign bs long e
-    go true false e f = order-periods bs long e f
-    go true true e f =
+    misplaced : periodsOk (numberAt 4 bs 4) ≡ true → orderPlaced bs ≡ false
+    misplaced f =
         let T = periods-range (numberAt 4 bs 4) f in
-        let not : orderPlaced bs ≡ true → ⊥ = λ h. omega (arith, placed-range 8 tariffOffset traceOffset (orderLength (numberAt 4 bs 4)) bs h .file-length, T .few) in
-        order-misplaced bs long e f (not-true-false (orderPlaced bs) not)
+        not-true-false (orderPlaced bs) (λ h. omega (arith, s, placed-range 8 tariffOffset traceOffset (orderLength (numberAt 4 bs 4)) bs h .file-length, T .few))
 
--- So bytes that follow change nothing.
 pub long-more : (bs more : List ℕ) → tariffOffset ≤ length bs → orderLength traceLimit < numberAt 4 bs 16
     → (n : ℕ) × (readOrder bs ≡ refused n) × (readOrder (bs ++ more) ≡ refused n)
-unfolding headerRefusal
 long-more bs more l s =
     let same : (at : ℕ) → at + 4 ≤ tariffOffset → numberAt 4 (bs ++ more) at ≡ numberAt 4 bs at = λ at h. number-front 4 bs more at (omega (arith, l, h)) in
     let stated : orderLength traceLimit < numberAt 4 (bs ++ more) 16 = omega (arith, s, same 16 (omega arith)) in
-    let header : headerRefusal (bs ++ more) ≡ headerRefusal bs =
-    ap₂ (λ (kind T : ℕ). cond (eqb kind orderKind) (cond (periodsOk T) 4 3) 2) (same 0 (omega arith)) (same 4 (omega arith)) in
-    (headerRefusal bs, long-order bs l s, long-order (bs ++ more) (omega (arith, l, length-append bs more)) stated ∙ ap refused header)
+    let r = header-number {A = Order} (eqb (numberAt 4 bs 0) orderKind) (periodsOk (numberAt 4 bs 4)) in (
+      r .0,
+      long-order bs l s ∙ r .1,
+      long-order (bs ++ more) (omega (arith, l, length-append bs more)) stated ∙ ap₂ byHeader (same 0 (omega arith)) (same 4 (omega arith)) ∙ r .1,
+    )

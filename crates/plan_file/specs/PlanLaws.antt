@@ -4,8 +4,8 @@
 use Prim.Native.Nat.{ℕ, zero, suc, _+_, _*_, _≤_, _<_}
 use native.Mathlib.Nat.{le-refl}
 use native.Mathlib.Omega.{arith}
-use mathlib.Core.Path.{_≡_, refl, sym, ap, ap₂, subst, _∙_}
-use mathlib.Core.Bool.{Bool, true, false, cond}
+use mathlib.Core.Path.{_≡_, sym, ap, ap₂, subst, _∙_}
+use mathlib.Core.Bool.{true, false}
 use mathlib.Core.List.{List, [], _∷_, _++_, append-nil, append-assoc}
 use borrow.Author.Tests.{le-leb}
 use lib.Dec.{leb, eqb}
@@ -20,11 +20,11 @@ use Rattle.plan_file.specs.declared.answers.PlanFigures.{PlanFigures}
 use Rattle.encoding.specs.Number.{bytesOf, numberAt, bytesOfAll, itemsAt}
 use Rattle.encoding.specs.NumberLaws.{Within, Bytes, numbers-written, numbers-read, each-at, length-bytes, length-all, length-items, number-front, number-written, number-read, items-written, items-read}
 use Rattle.encoding.specs.Header.{Placed}
-use Rattle.encoding.specs.HeaderLaws.{placed-range}
+use Rattle.encoding.specs.HeaderLaws.{headed, header-decides, placed-range}
 use Rattle.record_list.specs.Held.{noRecord}
 use Rattle.plan_file.specs.RecordLaws.{RecordsRange, records-ok}
 use Rattle.plan_file.specs.Plan.{Recorded, figuresIn, planKind, costOffset, bucketsOffset, planLength, longestPlan, countsOk, planWords, planBytes, recordBytes, recordAt, recordsIn, planIn, readPlan, planFile, writePlan, VeryPlan}
-use Rattle.plan_file.specs.PlanRules.{PlanRules, CountsRange, counts-ok, counts-range, planPlaced, plan-foreign, plan-misplaced, plan-periods, bucketsIn, recordedIn, rules-read, read-rules, read-fits, read-holds, write-figures, write-rules, length-head, length-record, length-plan}
+use Rattle.plan_file.specs.PlanRules.{PlanRules, CountsRange, counts-ok, counts-range, planPlaced, bucketsIn, recordedIn, rules-read, read-rules, read-fits, read-holds, write-figures, write-rules, length-head, length-record, length-plan}
 
 -- ---- One record
 
@@ -204,31 +204,25 @@ very-plan bs h room (refused m) e = tt
 
 -- ---- Other bytes behind a plan
 
--- A plan of more bytes than the longest has is refused by its header alone.
-headerRefusal : List ℕ → ℕ
-headerRefusal bs = cond (eqb (numberAt 4 bs 0) planKind) (cond (countsOk (numberAt 4 bs 4) (numberAt 4 bs 8)) 4 3) 2
+-- A plan of more bytes than the longest has is refused by its header alone, so bytes that follow change nothing.
+abbrev byHeader : ℕ → ℕ → ℕ → Answer Recorded
+byHeader kind T k = headed (eqb kind planKind) (countsOk T k)
 
-long-plan : (bs : List ℕ) → longestPlan < length bs → planIn bs ≡ refused (headerRefusal bs)
-unfolding headerRefusal
-long-plan bs l = go (eqb (numberAt 4 bs 0) planKind) (countsOk (numberAt 4 bs 4) (numberAt 4 bs 8)) refl refl
+long-plan : (bs : List ℕ) → longestPlan < length bs → planIn bs ≡ byHeader (numberAt 4 bs 0) (numberAt 4 bs 4) (numberAt 4 bs 8)
+unfolding planIn
+long-plan bs l =
+    header-decides (leb costOffset (length bs)) (eqb (numberAt 4 bs 0) planKind) (countsOk (numberAt 4 bs 4) (numberAt 4 bs 8)) (planPlaced bs) _
+    (le-leb costOffset (length bs) (omega (arith, l))) misplaced
   where
-    long : leb costOffset (length bs) ≡ true
-    long = le-leb costOffset (length bs) (omega (arith, l))
-
-    go : (k c : Bool) → eqb (numberAt 4 bs 0) planKind ≡ k → countsOk (numberAt 4 bs 4) (numberAt 4 bs 8) ≡ c → planIn bs ≡ refused (cond k (cond c 4 3) 2)
-    go false c e f = plan-foreign bs long e
-    go true false e f = plan-periods bs long e f
-    go true true e f =
+    misplaced : countsOk (numberAt 4 bs 4) (numberAt 4 bs 8) ≡ true → planPlaced bs ≡ false
+    misplaced f =
         let r = counts-range (numberAt 4 bs 4) (numberAt 4 bs 8) f in
-        let not : planPlaced bs ≡ true → ⊥ = λ h. omega (arith, l, placed-range 12 costOffset bucketsOffset (planLength (numberAt 4 bs 8)) bs h .bytes, r .few, r .periods .few) in
-        plan-misplaced bs long e f (not-true-false (planPlaced bs) not)
+        not-true-false (planPlaced bs) (λ h. omega (arith, l, placed-range 12 costOffset bucketsOffset (planLength (numberAt 4 bs 8)) bs h .bytes, r .few, r .periods .few))
 
--- So bytes that follow change nothing.
 pub long-more : (bs more : List ℕ) → longestPlan < length bs → planIn (bs ++ more) ≡ planIn bs
-unfolding headerRefusal
 long-more bs more l =
     let same : (at : ℕ) → at + 4 ≤ costOffset → numberAt 4 (bs ++ more) at ≡ numberAt 4 bs at = λ at h. number-front 4 bs more at (omega (arith, l, h)) in
-    let header : headerRefusal (bs ++ more) ≡ headerRefusal bs =
-    ap (λ (kind : ℕ). cond (eqb kind planKind) (cond (countsOk (numberAt 4 (bs ++ more) 4) (numberAt 4 (bs ++ more) 8)) 4 3) 2) (same 0 (omega arith))
-    ∙ ap₂ (λ (T k : ℕ). cond (eqb (numberAt 4 bs 0) planKind) (cond (countsOk T k) 4 3) 2) (same 4 (omega arith)) (same 8 (omega arith)) in
-    long-plan (bs ++ more) (omega (arith, l, length-append bs more)) ∙ ap refused header ∙ sym (long-plan bs l)
+    long-plan (bs ++ more) (omega (arith, l, length-append bs more))
+    ∙ ap (λ (kind : ℕ). byHeader kind (numberAt 4 (bs ++ more) 4) (numberAt 4 (bs ++ more) 8)) (same 0 (omega arith))
+    ∙ ap₂ (byHeader (numberAt 4 bs 0)) (same 4 (omega arith)) (same 8 (omega arith))
+    ∙ sym (long-plan bs l)

@@ -2,7 +2,7 @@
 -- Assumes nothing.
 use Prim.Native.Nat.{ℕ, _+_, _≤_}
 use native.Mathlib.Omega.{arith}
-use mathlib.Core.Path.{_≡_, refl, sym, ap, ap₂, _∙_}
+use mathlib.Core.Path.{_≡_, refl, sym, ap, ap₂, subst, _∙_}
 use mathlib.Core.Bool.{Bool, true, false}
 use mathlib.Core.List.{List, [], _∷_, _++_}
 use borrow.Author.Tests.{leb-true, le-leb, eqb-true, eq-eqb}
@@ -125,6 +125,12 @@ read-rules bs x e =
       },
       sym (same-figures (g .1)),
     )
+
+-- So the records of a plan that is read are in their ranges.
+pub read-range : (bs : List ℕ) (x : Recorded) → planIn bs ≡ figures x → RecordsRange (x .periods) (x .buckets)
+read-range bs x e =
+    let r = read-rules bs x e in
+    subst (λ (y : Recorded). RecordsRange (y .periods) (y .buckets)) (sym (r .1)) (r .0 .records)
 
 -- The figures that are answered, from the numbers that are read.
 pub figures-are : (bs : List ℕ) (T k cost : ℕ) → T ≡ numberAt 4 bs 4 → k ≡ numberAt 4 bs 8 → cost ≡ numberAt 8 bs costOffset

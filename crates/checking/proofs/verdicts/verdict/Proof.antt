@@ -1,8 +1,7 @@
 -- A plan that does not hold gets a no; one that holds costs no less than the least, which the series call gives.
-use Prim.Native.Nat.{ℕ}
-use mathlib.Core.Path.{_≡_, refl, sym, ap, _∙_}
+use mathlib.Core.Path.{_≡_, refl, ap, _∙_}
 use mathlib.Core.Bool.{true, false}
-use Rattle.terms.specs.Answer.{Answer, figures, onFigures}
+use Rattle.terms.specs.Answer.{figures, onFigures}
 use Rattle.terms.specs.Bools.{check-passed, check-failed}
 use Rattle.series.specs.Series.{seriesSays}
 use Rattle.plan_file.specs.Plan.{Recorded}
