@@ -2,6 +2,12 @@
 // standard error. For them alone: no contract can say what a program reads or writes, so each
 // program's output is held to a stored one. Where a read or a write fails, a line on standard error has
 // what the caller hands over as `what`, the program and its input or output, and the system's reason.
+mod arguments;
+
+pub use arguments::has_words;
+pub use arguments::is_word;
+pub use arguments::number_argument;
+
 use encoding::FillAnswer;
 use libc::STDERR_FILENO;
 use libc::STDIN_FILENO;
@@ -35,31 +41,6 @@ pub fn read_all(room: &mut [u8], what: &[u8]) -> usize
         done += more;
     }
     done
-}
-
-// Whether the program was started with that many words, its own name among them. Where it was not,
-// its use goes to standard error, or to standard output where --help is the only argument.
-pub fn has_words(count: usize, usage: &[u8], what: &[u8]) -> bool {
-    if asks_for_help() {
-        put(STDOUT_FILENO, usage, what);
-        return false;
-    }
-    if os::arg_count() == count {
-        return true;
-    }
-    put(STDERR_FILENO, usage, what);
-    false
-}
-
-fn asks_for_help() -> bool {
-    let mut word = [0u8; 6];
-    let length = os::arg(1, &mut word);
-    (os::arg_count() == 2) & (length == 6) & is_help(word)
-}
-
-fn is_help(word: [u8; 6]) -> bool {
-    let dashes = (word[0] == b'-') & (word[1] == b'-');
-    dashes & (word[2] == b'h') & (word[3] == b'e') & (word[4] == b'l') & (word[5] == b'p')
 }
 
 // Writes the text that a call has filled to standard output, or the refusal line.

@@ -1,8 +1,8 @@
--- The depth at a rate (01, "Depth at a rate"; refusals 3, 5 and 7).
+-- The depth at a rate (01, "Depth at a rate"; refusals 3, 5 and 7), also of a trace in archive order (02, job 2).
 -- Assumes nothing.
 use Prim.Native.Nat.{ℕ, zero, suc}
 use mathlib.Core.Bool.{Bool, cond, _&&_}
-use mathlib.Core.List.{List}
+use mathlib.Core.List.{List, reverse}
 use lib.Dec.{leb}
 use lib.ListN.{length}
 use Rattle.terms.specs.declared.Tariff.{Tariff}
@@ -34,6 +34,10 @@ rateOk t r = tariffOk t && leb r (t .«rate_cap» .0)
 -- 3: the trace's length; 5: the tariff or the rate; 7: no depth.
 unfoldable pub depthOf : Tariff → ℕ → List ℕ → Answer ℕ
 depthOf t r ds = weigh (periodsOk (length ds)) 3 (weigh (rateOk t r) 5 (tariffDepth t r ds))
+
+-- The same of a trace in archive order, last period first: the depth of the list turned round.
+abbrev pub depthFromEnd : Tariff → ℕ → List ℕ → Answer ℕ
+depthFromEnd t r list = depthOf t r (reverse list)
 
 -- Each case of the answer in document 01's values and numbers.
 abbrev pub depthSays : DepthAnswer → Answer ℕ

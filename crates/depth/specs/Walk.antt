@@ -29,6 +29,10 @@ pushed r w d =
 unfoldable pub walkOf : ℕ → List ℕ → Walk
 walkOf r ds = foldl (pushed r) started ds
 
+-- The walk of the same periods turned round: their opening and their ending change places (`TurnLaws.walk-turned`).
+abbrev pub turned : Walk → Walk
+turned w = record { sum = w .sum; gained = w .gained; opening = w .ending; ending = w .opening; stretch = w .stretch }
+
 -- x / p rounded up; 0 where p is 0.
 unfoldable pub ceiling : ℕ → ℕ → ℕ
 ceiling x p = (x + (p - 1)) / p

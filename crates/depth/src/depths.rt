@@ -1,4 +1,4 @@
-// The depth at a rate: the call that planners use.
+// The depth at a rate: the calls that planners use, on a trace and on one in archive order.
 use crate::walk::Walk;
 use terms::Depth;
 use terms::Rate;
@@ -11,8 +11,9 @@ ghost use mathlib.Core.Path.{_≡_};
 ghost use lib.ListN.{length};
 ghost use Rattle.terms.specs.Limits.{rateLimit};
 ghost use Rattle.terms.specs.RangeRules.{PeriodsRange};
-ghost use Rattle.depth.specs.Depth.{depthOf, depthSays, rateOk};
+ghost use Rattle.depth.specs.Depth.{depthFromEnd, depthOf, depthSays, rateOk};
 ghost use Rattle.depth.specs.Walk.{walkOf};
+ghost use Rattle.depth.specs.Walked.{walkFor, walkSays};
 
 // What the depth call answers: the depth, or the refusal.
 pub enum DepthAnswer {
@@ -25,26 +26,55 @@ pub enum DepthAnswer {
 pub fn depth_at(trace: &[u16], rate: Rate, tariff: Tariff) -> DepthAnswer
     ensures { λ r. ⌜ depthSays r ≡ depthOf tariff (rate .0) (now (trace .entry)) ⌝ }
 {
-    if !periods_in_range(trace.len()) {
-        return DepthAnswer::Refused(Refusal::Periods);
-    }
-    if !rate_in_range(rate, tariff) {
-        return DepthAnswer::Refused(Refusal::Figure);
-    }
-    let walk = walked(trace, rate);
+    let walk = match walk_through(trace, rate, tariff) {
+        WalkAnswer::Walked(x) => x,
+        WalkAnswer::Refused(why) => return DepthAnswer::Refused(why),
+    };
     walk.depth(tariff.factor, tariff.depth_cap)
 }
 
-// One walk through the trace, first period to last.
-fn walked(trace: &[u16], rate: Rate) -> Walk
-    requires { ⌜ PeriodsRange (length (now trace)) ⌝ }
+// The same of a trace in archive order, last period first. It goes through the list once, as it comes:
+// the need that ends at a period of the list is what is needed before that period of the trace, and the
+// last of these is the trace's opening.
+pub fn depth_from_end(list: &[u16], rate: Rate, tariff: Tariff) -> DepthAnswer
+    ensures { λ r. ⌜ depthSays r ≡ depthFromEnd tariff (rate .0) (now (list .entry)) ⌝ }
+{
+    let walk = match walk_through(list, rate, tariff) {
+        WalkAnswer::Walked(x) => x,
+        WalkAnswer::Refused(why) => return DepthAnswer::Refused(why),
+    };
+    walk.turned().depth(tariff.factor, tariff.depth_cap)
+}
+
+// What both calls begin with: the walk through a list of demands as it comes, or the refusal.
+enum WalkAnswer {
+    Walked(Walk),
+    Refused(Refusal),
+}
+
+// Weighs what the calls are given and walks through the list; or refusal 3 or 5.
+fn walk_through(list: &[u16], rate: Rate, tariff: Tariff) -> WalkAnswer
+    ensures { λ r. ⌜ walkSays r ≡ walkFor tariff (rate .0) (now (list .entry)) ⌝ }
+{
+    if !periods_in_range(list.len()) {
+        return WalkAnswer::Refused(Refusal::Periods);
+    }
+    if !rate_in_range(rate, tariff) {
+        return WalkAnswer::Refused(Refusal::Figure);
+    }
+    WalkAnswer::Walked(walked(list, rate))
+}
+
+// One walk through a list of demands, first to last.
+fn walked(list: &[u16], rate: Rate) -> Walk
+    requires { ⌜ PeriodsRange (length (now list)) ⌝ }
     requires { ⌜ rate .0 ≤ rateLimit ⌝ }
-    ensures { λ r. ⌜ r ≡ walkOf (rate .0) (now (trace .entry)) ⌝ }
+    ensures { λ r. ⌜ r ≡ walkOf (rate .0) (now (list .entry)) ⌝ }
 {
     let mut walk = Walk::new();
     let mut i = 0;
-    while i < trace.len() {
-        walk = walk.push(rate, trace[i]);
+    while i < list.len() {
+        walk = walk.push(rate, list[i]);
         i += 1;
     }
     walk

@@ -4,3 +4,4 @@ pub mod walk;
 
 pub use depths::DepthAnswer;
 pub use depths::depth_at;
+pub use depths::depth_from_end;

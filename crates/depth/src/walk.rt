@@ -11,7 +11,7 @@ ghost use mathlib.Core.Path.{_≡_};
 ghost use Rattle.terms.specs.Limits.{rateLimit, depthLimit, partsLimit, traceLimit};
 ghost use Rattle.terms.specs.RangeRules.{FactorRange};
 ghost use Rattle.depth.specs.Depth.{depthSays};
-ghost use Rattle.depth.specs.Walk.{started, pushed, ceiling, depthFrom};
+ghost use Rattle.depth.specs.Walk.{started, pushed, turned, ceiling, depthFrom};
 ghost use Rattle.depth.specs.WalkRanges.{WalkRange};
 
 // What the periods so far ask for, in tokens.
@@ -57,6 +57,19 @@ impl Walk {
             opening: greater(self.opening, short_by(sum, gained)),
             ending,
             stretch: greater(self.stretch, ending),
+        }
+    }
+
+    // The walk of the same periods, the last of them first.
+    pub fn turned(self) -> Walk
+        ensures { λ r. ⌜ r ≡ turned self ⌝ }
+    {
+        Walk {
+            sum: self.sum,
+            gained: self.gained,
+            opening: self.ending,
+            ending: self.opening,
+            stretch: self.stretch,
         }
     }
 

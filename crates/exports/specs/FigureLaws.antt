@@ -5,7 +5,7 @@ use Prim.Native.Nat.{ℕ, suc, _+_, _*_, _≤_, _<_, _-_, _^_}
 use native.Mathlib.Omega.{arith}
 use mathlib.Core.Path.{_≡_, refl, sym, ap, subst, _∙_}
 use mathlib.Core.Bool.{Bool, true, false, cond}
-use mathlib.Core.List.{List, [], _∷_}
+use mathlib.Core.List.{List, [], _∷_, reverse}
 use borrow.Author.Tests.{ltb-true}
 use lib.Dec.{eqb, leb, ltb}
 use lib.IntN.{ℤ, pos, negsuc, natAbs}
@@ -26,6 +26,7 @@ use Rattle.bucket.specs.Trace.{Demands, gap, gaps, leastOf, minZ, overAll, spar
 use Rattle.bucket.specs.Trial.{trialFigures}
 use Rattle.meter.specs.declared.meters.Meter.{Meter}
 use Rattle.meter.specs.Meter.{freshMeter, meterOk, offerOf, offersOf, openOf, recordAfter}
+use Rattle.depth.specs.Depth.{depthOf}
 use Rattle.depth.specs.DepthLaws.{depth-found}
 use Rattle.series.specs.OutlineLaws.{carried-below}
 use Rattle.encoding.specs.NumberLaws.{Bytes}
@@ -40,7 +41,7 @@ use Rattle.planning.specs.Planning.{planned}
 use Rattle.planning.specs.PlannedLaws.{is-planned, planned-cheapest}
 use Rattle.booking.specs.Booking.{planFigures}
 use Rattle.booking.specs.BookingLaws.{file-demands, order-demands}
-use Rattle.services.specs.Services.{depthFor, singleFor, singleIn, trialFor, trialIn}
+use Rattle.services.specs.Services.{depthFor, depthFromEndFor, singleFor, singleIn, trialFor, trialIn}
 use Rattle.services.specs.ServiceLaws.{single-cost, single-line-short}
 use Rattle.sheets.specs.LengthLaws.{longestSheet}
 use Rattle.sheets.specs.Sheet.{sheetIn, sheetText}
@@ -77,11 +78,18 @@ order-below room fs ds n e =
 
 -- ---- One bucket
 
-pub depth-below : (r : ℕ) (bs : List ℕ) → Below (depthFor r bs)
-depth-below r bs n e =
+-- The depth for an order's demands as some list has them.
+depth-of-below : (list : List ℕ → List ℕ) (r : ℕ) (bs : List ℕ) → Below (andThen (ordered traceLimit bs) (λ x. depthOf (x .order .tariff) r (list (x .demands))))
+depth-of-below list r bs n e =
     let g = then-found (ordered traceLimit bs) _ e in
     let t = ordered-range (is-ordered traceLimit bs (g .0) (g .1)) .1 in
-    omega (arith, depth-found (g .0 .order .tariff) r (g .0 .demands) (g .2) .within, t .depth-caps)
+    omega (arith, depth-found (g .0 .order .tariff) r (list (g .0 .demands)) (g .2) .within, t .depth-caps)
+
+pub depth-below : (r : ℕ) (bs : List ℕ) → Below (depthFor r bs)
+depth-below = depth-of-below (λ ds. ds)
+
+pub depth-from-end-below : (r : ℕ) (bs : List ℕ) → Below (depthFromEndFor r bs)
+depth-from-end-below = depth-of-below reverse
 
 pub single-below : (bs : List ℕ) → Below (onFigures (λ s. s .cost) (singleFor bs))
 single-below bs n e =

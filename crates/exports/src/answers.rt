@@ -1,10 +1,12 @@
 // An answer as one number. Public only for this crate's calls.
+use depth::DepthAnswer;
 use encoding::FillAnswer;
 use terms::Refusal;
 use terms::refusal_number;
 ghost use mathlib.Core.Path.{_≡_};
 ghost use Rattle.terms.specs.Answer.{refused};
 ghost use Rattle.terms.specs.Refusals.{numberOf};
+ghost use Rattle.depth.specs.Depth.{depthSays};
 ghost use Rattle.encoding.specs.Fill.{fillSays};
 ghost use Rattle.exports.specs.Answers.{coded};
 
@@ -25,5 +27,15 @@ pub fn coded_fill(answer: FillAnswer) -> u64
     match answer {
         FillAnswer::Filled(n) => n as u64,
         FillAnswer::Refused(why) => coded_refusal(why),
+    }
+}
+
+// The number of a depth's answer: the depth, or the refusal.
+pub fn coded_depth(answer: DepthAnswer) -> u64
+    ensures { λ r. ⌜ r ≡ coded (depthSays answer) ⌝ }
+{
+    match answer {
+        DepthAnswer::Found(depth) => depth.0 as u64,
+        DepthAnswer::Refused(why) => coded_refusal(why),
     }
 }

@@ -1,8 +1,9 @@
 // One bucket for an order, as figures: the depth at a rate, the single bucket, and the trial.
+use crate::answers::coded_depth;
 use crate::answers::coded_refusal;
 use bucket::TrialAnswer;
-use depth::DepthAnswer;
 use services::figures::depth_for;
+use services::figures::depth_from_end_for;
 use services::figures::single_for;
 use services::figures::trial_for;
 use single::SingleAnswer;
@@ -12,7 +13,7 @@ use terms::Rate;
 ghost use mathlib.Core.Path.{_≡_};
 ghost use Rattle.terms.specs.Answer.{onFigures};
 ghost use Rattle.single.specs.Single.{bucketOf};
-ghost use Rattle.services.specs.Services.{depthFor, singleFor, trialFor};
+ghost use Rattle.services.specs.Services.{depthFor, depthFromEndFor, singleFor, trialFor};
 ghost use Rattle.exports.specs.Answers.{coded, figureOr};
 
 // The smallest depth that carries an order's trace at a rate; or refusal 1 to 5 of the order, 5 of the
@@ -21,10 +22,15 @@ ghost use Rattle.exports.specs.Answers.{coded, figureOr};
 pub extern "C" fn metqoraz_depth(order: &[u8], rate: u32) -> u64
     ensures { λ r. ⌜ r ≡ coded (depthFor rate (now (order .entry))) ⌝ }
 {
-    match depth_for(order, Rate(rate)) {
-        DepthAnswer::Found(depth) => depth.0 as u64,
-        DepthAnswer::Refused(why) => coded_refusal(why),
-    }
+    coded_depth(depth_for(order, Rate(rate)))
+}
+
+// The same where the order's demands stand in archive order, last period first.
+#[no_mangle]
+pub extern "C" fn metqoraz_depth_from_end(order: &[u8], rate: u32) -> u64
+    ensures { λ r. ⌜ r ≡ coded (depthFromEndFor rate (now (order .entry))) ⌝ }
+{
+    coded_depth(depth_from_end_for(order, Rate(rate)))
 }
 
 // The single bucket for an order: its rate and depth into the two numbers; answers its cost, or refusal

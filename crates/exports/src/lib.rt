@@ -12,6 +12,7 @@ mod texts;
 
 pub use answers::REFUSED;
 pub use buckets::metqoraz_depth;
+pub use buckets::metqoraz_depth_from_end;
 pub use buckets::metqoraz_single;
 pub use buckets::metqoraz_trial;
 pub use checks::metqoraz_check;

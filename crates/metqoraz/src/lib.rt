@@ -36,6 +36,7 @@ pub use meter::open_meter;
 // The smallest depth at a rate, the cheapest bucket, and the cheapest series of buckets.
 pub use depth::DepthAnswer;
 pub use depth::depth_at;
+pub use depth::depth_from_end;
 pub use lent_plans::Plan;
 pub use lent_plans::SeriesAnswer;
 pub use lent_plans::series;
@@ -73,8 +74,11 @@ pub use checking::check_files;
 pub use checking::check_line;
 
 // Texts: the services from an order file, a figure in megabits, a refusal; and room for the longest.
+pub use services::LONGEST_DEPTH;
 pub use services::LONGEST_SINGLE;
 pub use services::LONGEST_TRIAL;
+pub use services::depth_from_end_line;
+pub use services::depth_line;
 pub use services::single_line;
 pub use services::trial_line;
 pub use sheets::LONGEST_SHEET;
@@ -99,6 +103,7 @@ pub use typed_figures::number_of;
 pub use exports::metqoraz_book;
 pub use exports::metqoraz_check;
 pub use exports::metqoraz_depth;
+pub use exports::metqoraz_depth_from_end;
 pub use exports::metqoraz_meter;
 pub use exports::metqoraz_order;
 pub use exports::metqoraz_plan;

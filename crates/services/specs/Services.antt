@@ -1,5 +1,5 @@
--- The depth at a rate, the single bucket and a trial from an order file, as figures, and the last two as a line each
--- (00, the first two services).
+-- The depth at a rate, the single bucket and a trial from an order file, as figures and as a line each (00, the first
+-- two services; 02, job 2).
 -- Assumes nothing.
 use Prim.Native.Nat.{ℕ}
 use mathlib.Core.List.{List}
@@ -8,11 +8,11 @@ use Rattle.terms.specs.Answer.{Answer, andThen}
 use Rattle.terms.specs.Limits.{traceLimit}
 use Rattle.bucket.specs.declared.trials.TrialFigures.{TrialFigures}
 use Rattle.bucket.specs.Trial.{trialOf}
-use Rattle.depth.specs.Depth.{depthOf}
+use Rattle.depth.specs.Depth.{depthFromEnd, depthOf}
 use Rattle.single.specs.declared.costs.Priced.{Priced}
 use Rattle.single.specs.Single.{singleOf}
 use Rattle.order_file.specs.Ordered.{ordered}
-use Rattle.text.specs.Lines.{trialLine, singleLine}
+use Rattle.text.specs.Lines.{depthLine, trialLine, singleLine}
 use Rattle.text.specs.Fitted.{fitted}
 
 -- ---- Figures
@@ -21,6 +21,10 @@ use Rattle.text.specs.Fitted.{fitted}
 -- rate, 7 for none.
 abbrev pub depthFor : ℕ → List ℕ → Answer ℕ
 depthFor r bs = andThen (ordered traceLimit bs) (λ x. depthOf (x .order .tariff) r (x .demands))
+
+-- The same where the order's demands stand in archive order, last period first (02, job 2).
+abbrev pub depthFromEndFor : ℕ → List ℕ → Answer ℕ
+depthFromEndFor r bs = andThen (ordered traceLimit bs) (λ x. depthFromEnd (x .order .tariff) r (x .demands))
 
 -- The single bucket for an order's demands: 1 to 5 as reading gives it, 7 where there is none.
 abbrev pub singleFor : List ℕ → Answer Priced
@@ -31,6 +35,10 @@ abbrev pub trialFor : Bucket → List ℕ → Answer TrialFigures
 trialFor b bs = andThen (ordered traceLimit bs) (λ x. trialOf b (x .order .tariff .factor) (x .demands))
 
 -- ---- Lines, in `room` bytes: the same refusals, then 6
+
+-- The line of a depth that was answered, by either call.
+abbrev pub depthIn : ℕ → Answer ℕ → Answer (List ℕ)
+depthIn room a = andThen a (λ B. fitted room (depthLine B))
 
 abbrev pub singleIn : ℕ → List ℕ → Answer (List ℕ)
 singleIn room bs = andThen (singleFor bs) (λ s. fitted room (singleLine (s .bucket) (s .cost)))

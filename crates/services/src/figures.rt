@@ -4,6 +4,7 @@ use bucket::TrialAnswer;
 use bucket::trial;
 use depth::DepthAnswer;
 use depth::depth_at;
+use depth::depth_from_end;
 use order_file::OrderAnswer;
 use order_file::spreads::spread_order;
 use single::SingleAnswer;
@@ -15,7 +16,7 @@ ghost use mathlib.Core.Path.{_≡_};
 ghost use Rattle.bucket.specs.Trial.{trialSays};
 ghost use Rattle.depth.specs.Depth.{depthSays};
 ghost use Rattle.single.specs.Single.{singleSays};
-ghost use Rattle.services.specs.Services.{depthFor, singleFor, trialFor};
+ghost use Rattle.services.specs.Services.{depthFor, depthFromEndFor, singleFor, trialFor};
 
 // The smallest depth that carries an order's trace at a rate; or refusal 1 to 5 of the order, 5 of the
 // rate or 7.
@@ -29,6 +30,19 @@ pub fn depth_for(order: &[u8], rate: Rate) -> DepthAnswer
     };
     let tariff = found.tariff;
     depth_at(&demands[..found.periods as usize], rate, tariff)
+}
+
+// The same where the order's demands stand in archive order, last period first.
+pub fn depth_from_end_for(order: &[u8], rate: Rate) -> DepthAnswer
+    ensures { λ r. ⌜ depthSays r ≡ depthFromEndFor (rate .0) (now (order .entry)) ⌝ }
+{
+    let mut demands = [0u16; TRACE_LIMIT];
+    let found = match spread_order(order, &mut demands) {
+        OrderAnswer::Read(x) => x,
+        OrderAnswer::Refused(why) => return DepthAnswer::Refused(why),
+    };
+    let tariff = found.tariff;
+    depth_from_end(&demands[..found.periods as usize], rate, tariff)
 }
 
 // The single bucket for an order; or refusal 1 to 5 of the order or 7.

@@ -1,9 +1,12 @@
-// The services on one bucket, from an order file: the depth at a rate, the single bucket and the trial as
-// figures, and the last two as a line of text each.
+// The services on one bucket, from an order file: the depth at a rate, the single bucket and the trial, as
+// figures and as a line of text each.
 pub mod figures;
 mod lines;
 
+pub use lines::LONGEST_DEPTH;
 pub use lines::LONGEST_SINGLE;
 pub use lines::LONGEST_TRIAL;
+pub use lines::depth_from_end_line;
+pub use lines::depth_line;
 pub use lines::single_line;
 pub use lines::trial_line;

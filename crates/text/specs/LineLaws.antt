@@ -13,7 +13,7 @@ use Rattle.terms.specs.RangeRules.{BucketRange}
 use Rattle.terms.specs.Refusals.{numberOf}
 use Rattle.text.specs.Numeral.{numeral, ended}
 use Rattle.text.specs.Megabits.{megabits}
-use Rattle.text.specs.Lines.{newline, space, noLine, refusalLine, refusedWord, singleLine, singleWord, trialLine, trialWord, yesLine, yesWord}
+use Rattle.text.specs.Lines.{newline, space, depthLine, depthWord, noLine, refusalLine, refusedWord, singleLine, singleWord, trialLine, trialWord, yesLine, yesWord}
 use Rattle.text.specs.NumeralLaws.{numeral-short}
 use Rattle.text.specs.MegabitsLaws.{megabits-short, figure-short}
 use Rattle.text.specs.PutLaws.{ended-length}
@@ -92,6 +92,17 @@ single-short b cost h l =
       megabits-short d 3 (omega (arith, h .depths)),
       numeral-short 19 13 cost l,
     )
+
+-- ---- A depth of 32 bits
+
+abbrev pub longestDepth : ℕ
+longestDepth = 18
+
+pub depth-short : (depth : ℕ) → depth < 2 ^ 32 → length (depthLine depth) ≤ longestDepth
+depth-short depth h =
+    let e₁ = ended depthWord space in
+    let e₂ = ended (megabits (pos depth)) newline in
+    omega (arith, length-append e₁ e₂, ended-length (megabits (pos depth)) newline, megabits-short (pos depth) 6 (omega (arith, h)))
 
 -- ---- A check: the excess has 64 bits
 

@@ -1,5 +1,5 @@
 -- The lines of the printed sheet (01, "The printed sheet": one space between fields, byte 10 after each line), and a
--- line each for the trial, the single bucket, a check (02, job 1) and a refusal.
+-- line each for the trial, the single bucket, a check (02, job 1), a depth (02, job 2) and a refusal.
 -- Assumes nothing.
 use Prim.Native.Nat.{ℕ}
 use mathlib.Core.List.{List, [], _∷_, _++_}
@@ -27,6 +27,9 @@ trialWord = 116 ∷ 114 ∷ 105 ∷ 97 ∷ 108 ∷ []
 
 abbrev pub singleWord : List ℕ
 singleWord = 115 ∷ 105 ∷ 110 ∷ 103 ∷ 108 ∷ 101 ∷ []
+
+abbrev pub depthWord : List ℕ
+depthWord = 100 ∷ 101 ∷ 112 ∷ 116 ∷ 104 ∷ []
 
 abbrev pub yesWord : List ℕ
 yesWord = 121 ∷ 101 ∷ 115 ∷ []
@@ -63,6 +66,10 @@ trialLine spare over = ended trialWord space ++ ended (megabits spare) space ++ 
 -- The single bucket: the word single, rate and depth in megabits, cost.
 abbrev pub singleLine : Bucket → ℕ → List ℕ
 singleLine b cost = ended singleWord space ++ bucketFields b ++ ended (numeral cost) newline
+
+-- A depth: the word depth, a space and the depth in megabits.
+abbrev pub depthLine : ℕ → List ℕ
+depthLine depth = ended depthWord space ++ ended (megabits (pos depth)) newline
 
 -- A check that ends with yes: the word yes, a space and the excess, a plain number as the cost is.
 abbrev pub yesLine : ℕ → List ℕ

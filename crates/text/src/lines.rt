@@ -5,9 +5,10 @@ use crate::fields::put_tokens;
 use crate::fields::put_word;
 use crate::numerals::put_number;
 use terms::Bucket;
+use terms::Depth;
 ghost use Prim.Native.Nat.{_+_, _≤_};
 ghost use lib.ListN.{length};
-ghost use Rattle.text.specs.Lines.{bucketFields, bucketLine, numberLine, planLine, refusalLine, singleLine, trialLine, yesLine};
+ghost use Rattle.text.specs.Lines.{bucketFields, bucketLine, depthLine, numberLine, planLine, refusalLine, singleLine, trialLine, yesLine};
 ghost use Rattle.text.specs.PutLaws.{Puts};
 
 // The sheet's first line.
@@ -83,6 +84,15 @@ pub fn put_single_line(text: &mut [u8], at: usize, bucket: Bucket, cost: u64) ->
     let fields = put_word(text, at, b"single", b' ');
     let end = put_bucket(text, fields, bucket);
     put_number(text, end, cost, b'\n')
+}
+
+// The line of a depth.
+pub fn put_depth_line(text: &mut [u8], at: usize, depth: Depth) -> usize
+    requires { ⌜ at + length (depthLine (depth .0)) ≤ length (now text) ⌝ }
+    ensures { λ r. ⌜ Puts (now (text .entry)) at (depthLine (depth .0)) (now (text .exit)) r ⌝ }
+{
+    let end = put_word(text, at, b"depth", b' ');
+    put_tokens(text, end, depth.0, b'\n')
 }
 
 // The line of a plan that holds, with its excess.

@@ -2,17 +2,15 @@
 // refusal line. The arguments are the bucket's rate and depth.
 use console::ORDER_ROOM;
 use console::has_words;
+use console::number_argument;
 use console::print;
-use console::put;
 use console::read_all;
-use libc::STDERR_FILENO;
 use services::LONGEST_TRIAL;
 use services::trial_line;
 use terms::Bucket;
 use terms::Depth;
 use terms::Rate;
 use typed_figures::NumberAnswer;
-use typed_figures::number_of;
 
 fn main() {
     if !has_words(
@@ -22,20 +20,18 @@ fn main() {
     ) {
         return;
     }
-    let NumberAnswer::Number(rate) = argument(1) else {
-        put(
-            STDERR_FILENO,
-            b"trial: RATE is a whole number of kilobits, 0 to 4294967295 (refused 5)\n",
-            b"trial: write",
-        );
+    let NumberAnswer::Number(rate) = number_argument(
+        1,
+        b"trial: RATE is a whole number of kilobits, 0 to 4294967295 (refused 5)\n",
+        b"trial: write",
+    ) else {
         return;
     };
-    let NumberAnswer::Number(depth) = argument(2) else {
-        put(
-            STDERR_FILENO,
-            b"trial: DEPTH is a whole number of kilobits, 0 to 4294967295 (refused 5)\n",
-            b"trial: write",
-        );
+    let NumberAnswer::Number(depth) = number_argument(
+        2,
+        b"trial: DEPTH is a whole number of kilobits, 0 to 4294967295 (refused 5)\n",
+        b"trial: write",
+    ) else {
         return;
     };
     let bucket = Bucket {
@@ -43,16 +39,6 @@ fn main() {
         depth: Depth(depth),
     };
     print_trial(bucket);
-}
-
-// The bytes of an argument; a longer word counts as none.
-const WORD_ROOM: usize = 64;
-
-// The number that an argument stands for.
-fn argument(index: usize) -> NumberAnswer {
-    let mut word = [0u8; WORD_ROOM];
-    let length = os::arg(index, &mut word);
-    number_of(&word[..length])
 }
 
 fn print_trial(bucket: Bucket) {

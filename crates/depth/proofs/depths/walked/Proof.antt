@@ -34,10 +34,10 @@ module _ {r : ℕ} {ds : List ℕ} {w : Walk} {i : ℕ} (k : Walking r ds w i) w
   end l = k .so-far ∙ ap (walkOf r) (take-all i ds l)
 
 abbrev Inv-loop : tie.InvT-loop
-Inv-loop trace rate walk₀ i₀ walk i = Walking (rate .0) trace walk i
+Inv-loop list rate walk₀ i₀ walk i = Walking (rate .0) list walk i
 
 abbrev μ-loop : tie.MeasureT-loop
-μ-loop trace rate walk₀ i₀ walk i = length trace - i
+μ-loop list rate walk₀ i₀ walk i = length list - i
 
 new-requires : tie.Need-new-requires Inv-loop μ-loop
 new-requires c κs = search needs

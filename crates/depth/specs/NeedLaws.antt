@@ -1,0 +1,62 @@
+-- What the tokens needed before a period mean: a bucket carries periods exactly when it holds the need before the first
+-- of them and is as deep as the need before each later one, by induction over the bucket's steps. And a walk works them
+-- out: first to last they are its opening, last to first its ending.
+-- Assumes nothing.
+use Prim.Native.Nat.{ℕ, zero, suc, _+_, _-_, _≤_}
+use native.Mathlib.Omega.{arith}
+use mathlib.Core.Path.{_≡_, refl, sym, ap, _∙_}
+use mathlib.Core.Bool.{true}
+use mathlib.Core.List.{List, [], _∷_, reverse}
+use borrow.Author.Tests.{eqb-true, eq-eqb}
+use lib.Dec.{eqb}
+use lib.ListN.{drop}
+use Rattle.terms.specs.Bools.{and-both, both-and}
+use Rattle.bucket.specs.Step.{over, held}
+use Rattle.bucket.specs.Trace.{carriesFrom}
+use Rattle.depth.specs.declared.walk.Walk.{Walk}
+use Rattle.depth.specs.Need.{needBefore}
+use Rattle.depth.specs.Walk.{pushed, walkOf}
+use Rattle.depth.specs.TurnLaws.{walk-front, walk-turned}
+
+-- y tokens and depth B meet the needs: the one before period 1, and each later one.
+pub record Meets (r B y : ℕ) (ds : List ℕ) : Type 0 where
+  pub first : needBefore r ds ≤ y
+  pub later : (n : ℕ) → needBefore r (drop (suc n) ds) ≤ B
+
+-- Each need is the first or a later one.
+each-need : (r B : ℕ) (ds : List ℕ) → Meets r B B ds → (n : ℕ) → needBefore r (drop n ds) ≤ B
+each-need r B ds k zero = k .first
+each-need r B ds k (suc n) = k .later n
+
+module _ (r B : ℕ) where
+  pub carried-meets : (y : ℕ) (ds : List ℕ) → carriesFrom r B y ds ≡ true → Meets r B y ds
+  unfolding carriesFrom needBefore
+  carried-meets y [] e = record { first = omega arith; later = λ n. omega arith }
+  carried-meets y (d ∷ ds) e =
+      let c = and-both (eqb (over r y d) 0) (carriesFrom r B (held r B y d) ds) e in
+      let z : over r y d ≡ 0 = eqb-true _ _ (c .0) in
+      let k = carried-meets (held r B y d) ds (c .1) in
+      record {
+        first = omega (arith, k .first, z);
+        later = each-need r B ds (record { first = omega (arith, k .first); later = k .later });
+      }
+
+  pub meets-carried : (y : ℕ) (ds : List ℕ) → Meets r B y ds → carriesFrom r B y ds ≡ true
+  unfolding carriesFrom needBefore
+  meets-carried y [] k = refl
+  meets-carried y (d ∷ ds) k =
+      let z : over r y d ≡ 0 = omega (arith, k .first) in
+      let l : needBefore r ds ≤ held r B y d = omega (arith, k .first, k .later 0) in
+      both-and (eq-eqb _ _ z) (meets-carried (held r B y d) ds (record { first = l; later = λ n. k .later (suc n) }))
+
+-- ---- A walk works them out
+
+-- First to last, the need before period 1 is what the walk's opening ends with.
+pub opening-need : (r : ℕ) (ds : List ℕ) → walkOf r ds .opening ≡ needBefore r ds
+unfolding needBefore walkOf pushed
+opening-need r [] = refl
+opening-need r (d ∷ ds) = ap (λ (w : Walk). w .opening) (walk-front r d ds) ∙ omega (arith, opening-need r ds)
+
+-- Last to first it is the walk's ending: each push is one step of the recursion.
+pub ending-need : (r : ℕ) (list : List ℕ) → walkOf r list .ending ≡ needBefore r (reverse list)
+ending-need r list = sym (ap (λ (w : Walk). w .opening) (walk-turned r list)) ∙ opening-need r (reverse list)
