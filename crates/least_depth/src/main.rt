@@ -16,8 +16,9 @@ use typed_figures::NumberAnswer;
 
 fn main() {
     let from_end = is_word(2, b"from-end");
+    let words = if from_end { 3 } else { 2 };
     if !has_words(
-        2 + from_end as usize,
+        words,
         b"use: least_depth RATE [from-end] < ORDER (kilobits; an order file on standard input)\n",
         b"least_depth: write",
     ) {
