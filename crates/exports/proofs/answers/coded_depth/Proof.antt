@@ -9,6 +9,9 @@ use Rattle.exports.proofs.answers.coded_depth.Tie as tie
 enum-known-answer : tie.Need-enum-known-answer
 enum-known-answer c = search needs
 
+cast-result : tie.Need-cast-result
+cast-result c = search needs
+
 enum-known-answer-2 : tie.Need-enum-known-answer-2
 enum-known-answer-2 c = search needs
 
@@ -24,4 +27,10 @@ returns-2 c = c .coded-refusal .ensures ∙ sym (ap (λ x. coded (depthSays x)) 
 pub coded-depth-spec : {M : Type 1} → statement M
 coded-depth-spec =
     tie.close
-    (tie.spec enum-known-answer enum-known-answer-2 coded-refusal-requires returns returns-2)
+    (tie.spec
+    enum-known-answer
+    cast-result
+    enum-known-answer-2
+    coded-refusal-requires
+    returns
+    returns-2)
