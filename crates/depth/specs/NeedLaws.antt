@@ -10,11 +10,16 @@ use mathlib.Core.List.{List, [], _∷_, reverse}
 use borrow.Author.Tests.{eqb-true, eq-eqb}
 use lib.Dec.{eqb}
 use lib.ListN.{drop}
+use Rattle.terms.specs.declared.Tariff.{Tariff}
+use Rattle.terms.specs.Answer.{figures}
 use Rattle.terms.specs.Bools.{and-both, both-and}
-use Rattle.bucket.specs.Step.{over, held}
-use Rattle.bucket.specs.Trace.{carriesFrom}
+use Rattle.bucket.specs.Step.{startOf, over, held}
+use Rattle.bucket.specs.Trace.{carries, carriesFrom}
 use Rattle.depth.specs.declared.walk.Walk.{Walk}
+use Rattle.depth.specs.Depth.{depthOf}
+use Rattle.depth.specs.DepthLaws.{depth-found}
 use Rattle.depth.specs.Need.{needBefore}
+use Rattle.depth.specs.SearchLaws.{first-le}
 use Rattle.depth.specs.Walk.{pushed, walkOf}
 use Rattle.depth.specs.TurnLaws.{walk-front, walk-turned}
 
@@ -48,6 +53,14 @@ module _ (r B : ℕ) where
       let z : over r y d ≡ 0 = omega (arith, k .first) in
       let l : needBefore r ds ≤ held r B y d = omega (arith, k .first, k .later 0) in
       both-and (eq-eqb _ _ z) (meets-carried (held r B y d) ds (record { first = l; later = λ n. k .later (suc n) }))
+
+-- So the depth that is answered meets the needs, and no smaller one does.
+module _ (t : Tariff) (r : ℕ) (ds : List ℕ) {B : ℕ} (e : depthOf t r ds ≡ figures B) where
+  pub depth-meets : Meets r B (startOf (t .factor .p) (t .factor .q) B) ds
+  depth-meets = carried-meets r B _ ds (depth-found t r ds e .passes)
+
+  pub depth-meets-least : (C : ℕ) → Meets r C (startOf (t .factor .p) (t .factor .q) C) ds → B ≤ C
+  depth-meets-least C k = first-le (λ D. carries (t .factor .p) (t .factor .q) r D ds) _ B C (depth-found t r ds e) (meets-carried r C _ ds k)
 
 -- ---- A walk works them out
 

@@ -1,4 +1,4 @@
--- The depth calls' answers by what they begin with: the depth read off the walk, and in archive order off the walk turned
+-- The depth calls' answers by what they begin with: the depth read off the walk, in archive order off the walk turned
 -- round; or the same refusal.
 -- Assumes nothing.
 use Prim.Native.Nat.{ℕ, _≤_}

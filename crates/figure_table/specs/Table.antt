@@ -1,5 +1,6 @@
--- The lettered figures of document 01, "Figures to hold the definitions to", and checks of plans for the printed case
--- (02, job 1), as one table. That it holds is proved of the definitions (`TableLaws`).
+-- The lettered figures of document 01, "Figures to hold the definitions to", depths of traces in archive order (02,
+-- job 2) and checks of plans for the printed case (02, job 1), as one table. That it holds is proved of the definitions
+-- (`TableLaws`).
 -- Assumes nothing.
 use Prim.Native.Nat.{ℕ}
 use mathlib.Core.List.{List, [], _∷_, map}
@@ -13,7 +14,7 @@ use Rattle.bucket.specs.declared.trials.TrialFigures.{TrialFigures}
 use Rattle.bucket.specs.Trial.{trialOf}
 use Rattle.meter.specs.declared.meters.Meter.{Meter}
 use Rattle.meter.specs.Meter.{openOf, afterOffers}
-use Rattle.depth.specs.Depth.{depthOf}
+use Rattle.depth.specs.Depth.{depthFromEnd, depthOf}
 use Rattle.single.specs.declared.costs.Priced.{Priced}
 use Rattle.single.specs.Single.{bucketOf, atRate, singleOf}
 use Rattle.series.specs.Series.{trueCost, seriesOf}
@@ -116,6 +117,15 @@ table =
     -- B: 4,8,2 at rate 5: depth cap 4 gives 4, cap 3 gives refusal 7
     ∷ record { given = onFigures depthRow (depthOf (capped 4) 5 case); paper = figures (pos 4 ∷ []) }
     ∷ record { given = onFigures depthRow (depthOf (capped 3) 5 case); paper = refused 7 }
+    -- 02, job 2: 2,8,4 in archive order, which is A's trace, at rates 4, 5, 6: depths 8, 4, 2
+    ∷ record { given = onFigures depthRow (depthFromEnd printed 4 (2 ∷ 8 ∷ 4 ∷ [])); paper = figures (pos 8 ∷ []) }
+    ∷ record { given = onFigures depthRow (depthFromEnd printed 5 (2 ∷ 8 ∷ 4 ∷ [])); paper = figures (pos 4 ∷ []) }
+    ∷ record { given = onFigures depthRow (depthFromEnd printed 6 (2 ∷ 8 ∷ 4 ∷ [])); paper = figures (pos 2 ∷ []) }
+    -- … 2,8 and 8,2 in archive order at rate 5: depths 6 and 3, and with factor 0/1 refusal 7 and depth 3
+    ∷ record { given = onFigures depthRow (depthFromEnd printed 5 (2 ∷ 8 ∷ [])); paper = figures (pos 6 ∷ []) }
+    ∷ record { given = onFigures depthRow (depthFromEnd printed 5 (8 ∷ 2 ∷ [])); paper = figures (pos 3 ∷ []) }
+    ∷ record { given = onFigures depthRow (depthFromEnd empty 5 (2 ∷ 8 ∷ [])); paper = refused 7 }
+    ∷ record { given = onFigures depthRow (depthFromEnd empty 5 (8 ∷ 2 ∷ [])); paper = figures (pos 3 ∷ []) }
     -- C: single for 4,8,2: (5, 4), cost 46; rate 6 with depth 2 costs the same
     ∷ record { given = onFigures singleRow (singleOf printed case); paper = figures (pos 5 ∷ pos 4 ∷ pos 46 ∷ []) }
     ∷ record { given = onFigures singleRow (atRate printed case 6); paper = figures (pos 6 ∷ pos 2 ∷ pos 46 ∷ []) }

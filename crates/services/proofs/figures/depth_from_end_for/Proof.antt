@@ -1,4 +1,5 @@
--- Each return is a case of the definition: the order that is read, and the depth for the demands spread, the last of them first.
+-- Each return is a case of the definition: the order that is read, and the depth for the demands spread, the last of
+-- them first.
 use Prim.Native.Nat.{_≤_}
 use native.Mathlib.Omega.{arith}
 use mathlib.Core.Path.{sym, ap, _∙_}
