@@ -21,7 +21,7 @@ use Rattle.depth.specs.DepthLaws.{depth-found}
 use Rattle.depth.specs.Need.{needBefore}
 use Rattle.depth.specs.SearchLaws.{first-le}
 use Rattle.depth.specs.Walk.{pushed, walkOf}
-use Rattle.depth.specs.TurnLaws.{walk-front, walk-turned}
+use Rattle.depth.specs.TurnLaws.{walk-preceded, walk-turned}
 
 -- y tokens and depth B meet the needs: the one before period 1, and each later one.
 pub record Meets (r B y : ℕ) (ds : List ℕ) : Type 0 where
@@ -68,7 +68,7 @@ module _ (t : Tariff) (r : ℕ) (ds : List ℕ) {B : ℕ} (e : depthOf t r ds �
 pub opening-need : (r : ℕ) (ds : List ℕ) → walkOf r ds .opening ≡ needBefore r ds
 unfolding needBefore walkOf pushed
 opening-need r [] = refl
-opening-need r (d ∷ ds) = ap (λ (w : Walk). w .opening) (walk-front r d ds) ∙ omega (arith, opening-need r ds)
+opening-need r (d ∷ ds) = ap (λ (w : Walk). w .opening) (walk-preceded r d ds) ∙ omega (arith, opening-need r ds)
 
 -- Last to first it is the walk's ending: each push is one step of the recursion.
 pub ending-need : (r : ℕ) (list : List ℕ) → walkOf r list .ending ≡ needBefore r (reverse list)
