@@ -7,7 +7,6 @@ mod arguments;
 pub use arguments::has_words;
 pub use arguments::is_word;
 pub use arguments::number_argument;
-
 use encoding::FillAnswer;
 use libc::STDERR_FILENO;
 use libc::STDIN_FILENO;

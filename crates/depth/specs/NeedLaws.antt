@@ -1,14 +1,16 @@
 -- What the tokens needed before a period mean: a bucket carries periods exactly when it holds the need before the first
 -- of them and is as deep as the need before each later one, by induction over the bucket's steps. And a walk works them
--- out: first to last they are its opening, last to first its ending.
+-- out: the one before period 1 is its opening, or its ending where the list comes last period first; the greatest is
+-- its stretch.
 -- Assumes nothing.
-use Prim.Native.Nat.{ℕ, zero, suc, _+_, _-_, _≤_}
+use Prim.Native.Nat.{ℕ, zero, suc, _+_, _-_, _≤_, max}
 use native.Mathlib.Omega.{arith}
+use native.Mathlib.Nat.{add-comm, le-trans, le-max-left, le-max-right, max-eq-left, max-eq-right}
 use mathlib.Core.Path.{_≡_, refl, sym, ap, _∙_}
-use mathlib.Core.Bool.{true}
+use mathlib.Core.Bool.{Bool, true, false}
 use mathlib.Core.List.{List, [], _∷_, reverse}
-use borrow.Author.Tests.{eqb-true, eq-eqb}
-use lib.Dec.{eqb}
+use borrow.Author.Tests.{eqb-true, eq-eqb, leb-true, leb-false}
+use lib.Dec.{eqb, leb}
 use lib.ListN.{drop}
 use Rattle.terms.specs.declared.Tariff.{Tariff}
 use Rattle.terms.specs.Answer.{figures}
@@ -64,12 +66,34 @@ module _ (t : Tariff) (r : ℕ) (ds : List ℕ) {B : ℕ} (e : depthOf t r ds �
 
 -- ---- A walk works them out
 
--- First to last, the need before period 1 is what the walk's opening ends with.
+-- The need before period 1 is the opening of the trace's walk.
 pub opening-need : (r : ℕ) (ds : List ℕ) → walkOf r ds .opening ≡ needBefore r ds
 unfolding needBefore walkOf pushed
 opening-need r [] = refl
 opening-need r (d ∷ ds) = ap (λ (w : Walk). w .opening) (walk-preceded r d ds) ∙ omega (arith, opening-need r ds)
 
--- Last to first it is the walk's ending: each push is one step of the recursion.
+-- The walk's stretch is the greatest of the needs: none is above it, and one is equal to it.
+stretch-next : (r d : ℕ) (ds : List ℕ) → walkOf r (d ∷ ds) .stretch ≡ max (walkOf r ds .stretch) (needBefore r (d ∷ ds))
+unfolding needBefore pushed
+stretch-next r d ds = ap (λ (w : Walk). w .stretch) (walk-preceded r d ds) ∙ rw (opening-need r ds, add-comm (needBefore r ds) d)
+
+pub stretch-need : (r : ℕ) (ds : List ℕ) (n : ℕ) → needBefore r (drop n ds) ≤ walkOf r ds .stretch
+unfolding needBefore
+stretch-need r [] zero = omega arith
+stretch-need r [] (suc n) = omega arith
+stretch-need r (d ∷ ds) zero = rw (stretch-next r d ds) (le-max-right (walkOf r ds .stretch) _)
+stretch-need r (d ∷ ds) (suc n) = rw (stretch-next r d ds) (le-trans (stretch-need r ds n) (le-max-left (walkOf r ds .stretch) _))
+
+pub stretch-one : (r : ℕ) (ds : List ℕ) → (n : ℕ) × (walkOf r ds .stretch ≡ needBefore r (drop n ds))
+unfolding needBefore walkOf
+stretch-one r [] = (0, refl)
+stretch-one r (d ∷ ds) = go (stretch-one r ds) (leb (walkOf r ds .stretch) (needBefore r (d ∷ ds))) refl
+  where
+    go : (n : ℕ) × (walkOf r ds .stretch ≡ needBefore r (drop n ds)) → (b : Bool) → leb (walkOf r ds .stretch) (needBefore r (d ∷ ds)) ≡ b
+        → (n : ℕ) × (walkOf r (d ∷ ds) .stretch ≡ needBefore r (drop n (d ∷ ds)))
+    go k true h = (0, stretch-next r d ds ∙ max-eq-right (leb-true _ _ h))
+    go k false h = (suc (k .0), stretch-next r d ds ∙ max-eq-left (omega (arith, leb-false)) ∙ k .1)
+
+-- In archive order it is the walk's ending: each push is one step of the recursion.
 pub ending-need : (r : ℕ) (list : List ℕ) → walkOf r list .ending ≡ needBefore r (reverse list)
 ending-need r list = sym (ap (λ (w : Walk). w .opening) (walk-turned r list)) ∙ opening-need r (reverse list)

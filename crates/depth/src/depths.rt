@@ -34,8 +34,8 @@ pub fn depth_at(trace: &[u16], rate: Rate, tariff: Tariff) -> DepthAnswer
 }
 
 // The same of a trace in archive order, last period first. It goes through the list once, as it comes:
-// the need that ends at a period of the list is what is needed before that period of the trace, and the
-// last of these is the trace's opening.
+// the need that ends at a period of the list is what is needed before that period of the trace. The last
+// of these needs is the trace's opening, and the greatest its stretch.
 pub fn depth_from_end(list: &[u16], rate: Rate, tariff: Tariff) -> DepthAnswer
     ensures { λ r. ⌜ depthSays r ≡ depthFromEnd tariff (rate .0) (now (list .entry)) ⌝ }
 {
