@@ -1,5 +1,5 @@
 /*
- * Metqoraz, token bucket bookings, for programs in C: twelve calls on numbers and lent memory.
+ * Metqoraz, token bucket bookings, for programs in C: thirteen calls on numbers and lent memory.
  *
  *     rt staticlib exports
  *     cc -Iinclude mine.c target/staticlib/libexports.a
@@ -100,6 +100,16 @@ uint64_t metqoraz_order(const uint32_t *figures, size_t figures_len, const uint1
  * answers 2.
  */
 uint64_t metqoraz_depth(const uint8_t *order, size_t order_len, MetqorazRate rate);
+
+/*
+ * The same for an order whose demands stand in archive order, last period first. Answers and refuses as metqoraz_depth
+ * does on the order with its demands turned round.
+ *
+ *     metqoraz_depth_from_end(order, length, (MetqorazRate){5})
+ *
+ * answers 3, where metqoraz_depth answers 4.
+ */
+uint64_t metqoraz_depth_from_end(const uint8_t *order, size_t order_len, MetqorazRate rate);
 
 /*
  * The one bucket that carries an order's demands at least cost: its rate and depth; answers its cost.

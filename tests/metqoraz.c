@@ -50,6 +50,7 @@ static void kept(const char *call, const void *bytes, size_t count)
 static void printed_case(const uint8_t *order, size_t length)
 {
     say("depth", metqoraz_depth(order, length, (MetqorazRate){6}));
+    say("depth_from_end", metqoraz_depth_from_end(order, length, (MetqorazRate){5}));
 
     MetqorazRate rate;
     MetqorazDepth depth;
@@ -194,6 +195,7 @@ static void refused(const char *what, const uint8_t *order, size_t length)
     mark(bytes, sizeof bytes);
     printf("%s\n", what);
     say("  depth", metqoraz_depth(order, length, (MetqorazRate){0}));
+    say("  depth_from_end", metqoraz_depth_from_end(order, length, (MetqorazRate){0}));
     say("  single", metqoraz_single(order, length, &rate, &depth));
     say("  single_line", metqoraz_single_line(order, length, bytes, sizeof bytes));
     say("  trial", metqoraz_trial(order, length, (MetqorazRate){4096}, (MetqorazDepth){0}, &spare));

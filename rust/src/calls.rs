@@ -39,6 +39,7 @@ extern "C" {
         bytes_len: usize,
     ) -> u64;
     fn metqoraz_depth(order: *const u8, order_len: usize, rate: Rate) -> u64;
+    fn metqoraz_depth_from_end(order: *const u8, order_len: usize, rate: Rate) -> u64;
     fn metqoraz_single(order: *const u8, order_len: usize, rate: *mut Rate, depth: *mut Depth) -> u64;
     fn metqoraz_single_line(order: *const u8, order_len: usize, text: *mut u8, text_len: usize) -> u64;
     fn metqoraz_trial(order: *const u8, order_len: usize, rate: Rate, depth: Depth, spare: *mut i64) -> u64;
@@ -128,6 +129,13 @@ pub fn order(figures: &[u32; 7], demands: &[u16]) -> Answer<Vec<u8>> {
 pub fn depth(order: &[u8], rate: Rate) -> Answer<Depth> {
     // SAFETY: as in `order_into`.
     answer(unsafe { metqoraz_depth(order.as_ptr(), order.len(), rate) }).map(|depth| Depth(depth as u32))
+}
+
+/// The same for an order whose demands stand in archive order, last period first: what `depth` gives for the order with
+/// its demands turned round.
+pub fn depth_from_end(order: &[u8], rate: Rate) -> Answer<Depth> {
+    // SAFETY: as in `order_into`.
+    answer(unsafe { metqoraz_depth_from_end(order.as_ptr(), order.len(), rate) }).map(|depth| Depth(depth as u32))
 }
 
 /// A bucket and what it costs.

@@ -1,4 +1,5 @@
-//! Inputs made from a seed: traces, tariffs, buckets and damaged files. The same seed always makes the same inputs.
+//! Inputs made from a seed: traces, tariffs, buckets and damaged files. The same seed always makes the same inputs. And
+//! all small inputs of a depth.
 
 use crate::paper::terms::{Bucket, Tariff, DEPTH_MAX, FEE_MAX, PRICE_MAX, Q_MAX, RATE_MAX};
 
@@ -173,6 +174,33 @@ pub fn corner_tariff(seed: &mut Seed) -> Tariff {
         q,
         rate_cap: seed.pick([0, 1, RATE_MAX]),
         depth_cap: seed.pick([0, 1, DEPTH_MAX, DEPTH_MAX]),
+    }
+}
+
+/// Every trace of 1 to `longest` periods with demands up to `high`.
+fn every_trace(longest: u32, high: u16) -> Vec<Vec<u16>> {
+    let (mut all, mut longer) = (Vec::new(), vec![Vec::new()]);
+    for _ in 0..longest {
+        let with_demands = |front: &Vec<u16>| (0..=high).map(|demand| [&front[..], &[demand]].concat()).collect();
+        longer = longer.iter().flat_map::<Vec<_>, _>(with_demands).collect();
+        all.extend_from_slice(&longer);
+    }
+    all
+}
+
+/// Runs the check for every trace of 1 to 5 periods with demands up to 3, at each rate up to one above a rate cap of 3,
+/// with each factor of a q up to 3 and with depth caps from 0 to 45, the greatest depth of all.
+pub fn for_small_depths(check: impl Fn(&[u16], u32, &Tariff)) {
+    let factors = (1..=3).flat_map(|q| (0..=q).map(move |p| (p, q)));
+    let tariffs = factors.flat_map(|(p, q)| {
+        let capped = |depth_cap| Tariff { rate_price: 2, depth_price: 1, fee: 4, p, q, rate_cap: 3, depth_cap };
+        [0, 1, 2, 4, 9, 45].map(capped)
+    });
+    let traces = every_trace(5, 3);
+    for tariff in tariffs {
+        for trace in &traces {
+            (0..=tariff.rate_cap + 1).for_each(|rate| check(trace, rate, &tariff));
+        }
     }
 }
 

@@ -14,9 +14,7 @@ use metqoraz::paper::plan::{read_plan, write_plan};
 use metqoraz::paper::series::series_plain;
 use metqoraz::paper::terms::{Bucket, Plan, Record, Tariff, COST_MAX, DEPTH_MAX, RATE_MAX};
 use metqoraz::paper::{Answer, FOREIGN, NO_PLAN, SHORT, UNEQUAL};
-use shared::{any_order, file_of, for_seeds, on_order, same, small_order, Tally};
-use std::io::Write;
-use std::process::{Command, Stdio};
+use shared::{any_order, file_of, for_seeds, on_order, printed, same, small_order, Tally};
 
 /// What came of a check. A no is told by the one rule that the plan breaks.
 #[derive(Clone, Copy, Debug, PartialEq, Eq, PartialOrd, Ord)]
@@ -370,16 +368,6 @@ fn every_byte_of_both_files_counts_alike() {
     tally.expect(&[&VERDICTS[..], &READING].concat(), 100);
 }
 
-/// What the program prints for its standard input.
-fn printed(input: &[u8]) -> String {
-    let program = concat!(env!("CARGO_MANIFEST_DIR"), "/../target/bin/check_plan");
-    let piped = Command::new(program).stdin(Stdio::piped()).stdout(Stdio::piped()).spawn();
-    let mut child = piped.expect("the program is there: run `rt check check_plan` first");
-    child.stdin.take().expect("the input is piped").write_all(input).expect("the input is read");
-    let output = child.wait_with_output().expect("the program ends");
-    String::from_utf8(output.stdout).expect("the program prints text")
-}
-
 /// An order and a plan on one standard input: whole, damaged, or cut off.
 #[test]
 fn the_program_prints_alike() {
@@ -393,7 +381,7 @@ fn the_program_prints_alike() {
             2 => [damaged(&file, seed), plan].concat(),
             _ => [file, damaged(&plan, seed)].concat(),
         };
-        same(&printed(&input), &check_line(&input));
+        same(&printed("check_plan", &[], &input), &check_line(&input));
     });
 }
 
@@ -407,7 +395,7 @@ fn the_program_takes_the_longest_files() {
         let mut input = [file_of(&(tariff, demands)), plan_file(&plan)].concat();
         for (more, answer) in [(0, "yes "), (1, "refused 4"), (5_000, "refused 4")] {
             input.resize(input.len() + more, 0);
-            let line = printed(&input);
+            let line = printed("check_plan", &[], &input);
             assert!(line.starts_with(answer), "{line}");
             same(&line, &check_line(&input));
         }

@@ -5,14 +5,16 @@ mod shared;
 
 use metqoraz::calls::{self, Depth, Rate};
 use metqoraz::inputs::{any_tariff, bucket, damaged, Seed};
-use metqoraz::paper::depth::depth_at;
 use metqoraz::paper::order::{read_order, trace_of};
 use metqoraz::paper::plan::write_plan;
 use metqoraz::paper::series::series_by_trying;
 use metqoraz::paper::sheet::{sheet, single_line, trial_line};
 use metqoraz::paper::terms::Tariff;
 use metqoraz::paper::{Answer, PERIODS};
-use shared::{any_order, compare_in, file_of, file_with, for_seeds, lent, on_order, said, same, small_order, Tally};
+use shared::{
+    any_order, compare_depths, compare_in, file_of, file_with, for_seeds, lent, on_order, said, same, small_order,
+    Tally,
+};
 
 /// The plan file of the best of all cuttings.
 fn booked(file: &[u8]) -> Answer<Vec<u8>> {
@@ -23,7 +25,7 @@ fn booked(file: &[u8]) -> Answer<Vec<u8>> {
 fn compare_all(file: &[u8], seed: &mut Seed) {
     let (tried, rate) = (bucket(seed), seed.between(0, 10));
     let room = seed.between(0, 120) as usize;
-    same(&calls::depth(file, Rate(rate)), &on_order(file, |trace, tariff| depth_at(trace, rate, tariff)).map(Depth));
+    let _ = compare_depths(file, rate);
     same(&calls::series(file), &on_order(file, series_by_trying).map(|plan| plan.cost));
     compare_in(room, &said(&trial_line(file, tried)), seed, |text| {
         calls::trial_line_into(file, Rate(tried.rate), Depth(tried.depth), text)

@@ -1,11 +1,14 @@
 //! Tests of the package itself: the paper's lettered figures, every quick way against the plain one, both files, the
-//! meter, the check of a plan and the refusals. A failing random test names its seed.
+//! meter, the check of a plan, the depth from the end and the refusals. A failing random test names its seed.
 
-use metqoraz::inputs::{any_tariff, bucket, corner_tariff, damaged, random_tariff, small_tariff, trace};
+use metqoraz::inputs::{
+    any_tariff, bucket, corner_tariff, damaged, for_small_depths, random_tariff, small_tariff, trace,
+};
 use metqoraz::inputs::{Seed, Shape, SHAPES};
 use metqoraz::paper::bucket::{carries, trial, Trial};
 use metqoraz::paper::check::{check, check_by_trying, check_line, two_files, Verdict};
 use metqoraz::paper::depth::{depth_at, depth_by_trying};
+use metqoraz::paper::from_end::{depth_by_needs, depth_from_end, depth_line, turned};
 use metqoraz::paper::meter::{offer, open, Meter};
 use metqoraz::paper::order::{read_order, trace_of, write_order};
 use metqoraz::paper::plan::{read_plan, write_plan};
@@ -421,11 +424,13 @@ fn plan_writing_refusals() {
 }
 
 /// Every call that takes a trace and a tariff, with its figures left out.
-fn answers(trace: &[u16], tariff: &Tariff) -> [Answer<()>; 9] {
+fn answers(trace: &[u16], tariff: &Tariff) -> [Answer<()>; 11] {
     [
         depth_at(trace, 0, tariff).map(drop),
         depth_by_trying(trace, 0, tariff).map(drop),
         depth_by_walk(trace, 0, tariff).map(drop),
+        depth_from_end(trace, 0, tariff).map(drop),
+        depth_by_needs(trace, 0, tariff).map(drop),
         single(trace, tariff).map(drop),
         single_by_walk(trace, tariff).map(drop),
         single_by_trying(trace, tariff).map(drop),
@@ -443,20 +448,22 @@ fn trace_and_tariff_refusals() {
         let mut figures = small.figures();
         figures[place] = figure;
         let tariff = Tariff::from_figures(figures);
-        assert_eq!(answers(&[0; 512], &tariff), [Err(5); 9], "{tariff:?}");
-        assert_eq!(answers(&[0; 513], &tariff), [Err(3); 9]);
-        assert_eq!(answers(&[], &tariff), [Err(3); 9]);
+        assert_eq!(answers(&[0; 512], &tariff), [Err(5); 11], "{tariff:?}");
+        assert_eq!(answers(&[0; 513], &tariff), [Err(3); 11]);
+        assert_eq!(answers(&[], &tariff), [Err(3); 11]);
     }
-    assert_eq!(answers(&[0; 512], &small), [Ok(()); 9]);
-    assert_eq!(answers(&[0; 513], &small), [Err(3); 9]);
-    assert_eq!(answers(&[9], &small)[..8], [Err(7); 8]);
+    assert_eq!(answers(&[0; 512], &small), [Ok(()); 11]);
+    assert_eq!(answers(&[0; 513], &small), [Err(3); 11]);
+    assert_eq!(answers(&[9], &small)[..10], [Err(7); 10]);
 }
 
 #[test]
 fn call_refusals() {
     let none = Tariff { rate_cap: 2, depth_cap: 0, ..TARIFF };
-    assert_eq!([0, 2, 3].map(|rate| depth_at(&[9], rate, &none)), [Err(7), Err(7), Err(5)]);
-    assert_eq!(depth_at(&[], 3, &none), Err(3));
+    for way in [depth_at, depth_from_end, depth_by_needs] {
+        assert_eq!([0, 2, 3].map(|rate| way(&[9], rate, &none)), [Err(7), Err(7), Err(5)]);
+        assert_eq!(way(&[], 3, &none), Err(3));
+    }
     let wrong = Tariff { q: 0, ..none };
     assert_eq!(series(&[], &wrong, 0), Err(3));
     assert_eq!(series(&[9], &wrong, 0), Err(5));
@@ -655,4 +662,61 @@ fn lines_of_a_check() {
         ["refused 2
 "; 2]
     );
+}
+
+// The depth from the end (02, job 2).
+
+#[test]
+fn figures_from_the_end() {
+    for way in [depth_from_end, depth_by_needs] {
+        assert_eq!([4, 5, 6].map(|rate| way(&[2, 8, 4], rate, &TARIFF)), [Ok(8), Ok(4), Ok(2)]);
+        let capped = [4, 3].map(|depth_cap| way(&[2, 8, 4], 5, &Tariff { depth_cap, ..TARIFF }));
+        assert_eq!(capped, [Ok(4), Err(7)]);
+        let two = |tariff| [[2, 8], [8, 2]].map(|list| way(&list, 5, tariff));
+        assert_eq!([two(&TARIFF), two(&Tariff { p: 0, q: 1, ..TARIFF })], [[Ok(6), Ok(3)], [Err(7), Ok(3)]]);
+    }
+}
+
+#[test]
+fn every_small_depth_from_the_end_is_that_found_by_trying() {
+    for_small_depths(|list, rate, tariff| {
+        let tried = depth_by_trying(&turned(list), rate, tariff);
+        assert_eq!([depth_from_end(list, rate, tariff), depth_by_needs(list, rate, tariff)], [tried; 2]);
+    });
+}
+
+#[test]
+fn needs_are_simulation() {
+    for_seeds(18_000, 30_000, |seed| {
+        let (tariff, list) = if seed.once_in(2) {
+            (small_tariff(seed), tiny_trace(12, seed))
+        } else {
+            (any_tariff(seed), any_trace(64, seed))
+        };
+        for rate in [0, tariff.rate_cap, tariff.rate_cap + 1, seed.between(0, tariff.rate_cap)] {
+            assert_eq!(depth_by_needs(&list, rate, &tariff), depth_from_end(&list, rate, &tariff));
+        }
+    });
+}
+
+#[test]
+fn needs_are_simulation_on_the_longest_lists() {
+    for_seeds(19_000, 700, |seed| {
+        let tariff = seed.pick([random_tariff, corner_tariff])(seed);
+        let list = trace(seed.pick(SHAPES), 512, seed);
+        for rate in [0, tariff.rate_cap, seed.between(0, tariff.rate_cap), seed.of_any_size(tariff.rate_cap)] {
+            assert_eq!(depth_by_needs(&list, rate, &tariff), depth_from_end(&list, rate, &tariff));
+        }
+    });
+}
+
+#[test]
+fn lines_of_a_depth() {
+    let order = write_order(&TARIFF, &TRACE).unwrap();
+    let lines = |order: &[u8], rate| [depth_at, depth_from_end].map(|way| depth_line(order, rate, way));
+    assert_eq!(lines(&order, 5), ["depth 0.004\n", "depth 0.003\n"]);
+    assert_eq!(lines(&order, 4_096), ["refused 5\n"; 2]);
+    assert_eq!([lines(&[], 5), lines(&order[..53], 5)], [["refused 1\n"; 2], ["refused 4\n"; 2]]);
+    let empty = write_order(&Tariff { p: 0, q: 1, ..TARIFF }, &[8, 2]).unwrap();
+    assert_eq!(lines(&empty, 5), ["refused 7\n", "depth 0.003\n"]);
 }

@@ -1,4 +1,4 @@
-//! How fast the product's series, single, sheet and check are, as ratios in one run: against the plain dynamic
+//! How fast the product's series, single, sheet, check and depth are, as ratios in one run: against the plain dynamic
 //! programme of `paper`, against the product's own algorithm in Rust, and against the calls that they stand for.
 //! Prints the appendix of docs/PERFORMANCE.md.
 
@@ -14,6 +14,7 @@ use std::time::Instant;
 
 const LENGTHS: [usize; 4] = [64, 128, 256, 512];
 const CAPS: [u32; 4] = [511, 1_023, 2_047, 4_095];
+const RATES: [u32; 5] = [0, 500, 1_000, 2_000, 4_095];
 const SHAPES: [Shape; 4] = [Shape::Feature, Shape::Flat, Shape::Noise, Shape::Spiky];
 const FEES: [u32; 6] = [0, 1_000, 10_000, 100_000, 1_000_000, 1_000_000_000];
 const PRICES: [(u32, u32); 3] = [(2, 1), (24, 1), (0, 1)];
@@ -92,6 +93,14 @@ impl Case {
         let (plain, product) = in_turns(plain, || calls::single(black_box(&self.order)));
         plain / product
     }
+
+    /// A call takes less than a microsecond, so a thousand are timed together.
+    fn from_end_against_forward(&self, rate: u32) -> f64 {
+        let answered = |call: fn(&[u8], Rate) -> calls::Answer<Depth>| call(black_box(&self.order), Rate(rate)).is_ok();
+        let thousand = |call| (0..1_000).filter(|_| answered(call)).count();
+        let (from_end, forward) = in_turns(|| thousand(calls::depth_from_end), || thousand(calls::depth));
+        from_end / forward
+    }
 }
 
 /// A number with its digits in threes.
@@ -127,6 +136,17 @@ fn ratio_tables() {
     table("Single: plain / product", &[100_000], 1, Case::single_against_plain);
 }
 
+/// The depth from the end against the forward one, by the rate. Prices and fee have no part in it.
+fn depth_table() {
+    let columns = RATES.map(|rate| format!("rate {}", grouped(rate))).join(" | ");
+    println!("\n### Depth from the end / depth, T = 512\n\n| trace | {columns} |\n|---|---|---|---|---|---|");
+    for shape in SHAPES {
+        let case = case(shape, 512, (2, 1), 0, 4_095);
+        let cells = RATES.map(|rate| format!("{:.2}", case.from_end_against_forward(rate))).join(" | ");
+        println!("| {shape:?} | {cells} |");
+    }
+}
+
 /// How the product's time and the plain programme's grow with the trace and with the rate cap.
 fn growth_tables() {
     println!("\n### Growth with T, rate cap 4,095, fee 100,000 (time at T = 64 is 1)\n");
@@ -157,5 +177,6 @@ fn growth<S: Copy>(sizes: [S; 4], of: impl Fn(Shape, (u32, u32), S) -> Case) {
 
 fn main() {
     ratio_tables();
+    depth_table();
     growth_tables();
 }

@@ -1,10 +1,11 @@
 //! Document 01 as a program, and what document 02 adds to it, written from the papers alone. Each file takes one
 //! heading of 01 or one job of 02, in the plainest way that follows its words; the quicker ways (`walk`,
-//! `series_plain`) are compared with those by the tests.
+//! `depth_by_needs`, `series_plain`) are compared with those by the tests.
 
 pub mod bucket;
 pub mod check;
 pub mod depth;
+pub mod from_end;
 pub mod meter;
 pub mod order;
 pub mod plan;

@@ -1,16 +1,22 @@
-//! What the comparisons share: runs over seeds, orders of many kinds, and what is lent to a call.
+//! What the comparisons share: runs over seeds, orders of many kinds, both depth calls, what is lent to a call, and
+//! what a program prints.
 
 // Each test program uses its own part of this.
 #![allow(dead_code)]
 
+use metqoraz::calls::{self, Depth, Rate};
 use metqoraz::inputs::{any_tariff, corner_tariff, damaged, small_tariff, trace, Seed, Shape, SHAPES};
+use metqoraz::paper::depth::depth_at;
+use metqoraz::paper::from_end::{depth_by_needs, turned};
 use metqoraz::paper::order::{read_order, trace_of, write_order};
 use metqoraz::paper::terms::Tariff;
 use metqoraz::paper::{Answer, LIST};
 use std::cell::RefCell;
 use std::collections::BTreeMap;
 use std::fmt::Debug;
+use std::io::Write;
 use std::panic::{catch_unwind, AssertUnwindSafe};
+use std::process::{Command, Stdio};
 
 /// Runs the check for each seed from `base` on, and names the seed that it panics with.
 pub fn for_seeds(base: u64, count: u64, check: impl Fn(&mut Seed)) {
@@ -75,6 +81,23 @@ pub fn any_file(longest: u32, seed: &mut Seed) -> Vec<u8> {
 pub fn on_order<T>(file: &[u8], call: impl FnOnce(&[u16], &Tariff) -> Answer<T>) -> Answer<T> {
     let (_, tariff) = read_order(file)?;
     call(&trace_of(file), &tariff)
+}
+
+/// An order's bytes with the demands turned round; bytes that are no order stay as they are.
+fn turned_order(file: &[u8]) -> Vec<u8> {
+    on_order(file, |list, tariff| write_order(tariff, &turned(list))).unwrap_or_else(|_| file.to_vec())
+}
+
+/// The depth of an order's bytes, forward and from the end: the first against simulation; the second against the needs,
+/// and against the product's first on the order turned round.
+pub fn compare_depths(file: &[u8], rate: u32) -> [Answer<u32>; 2] {
+    let forward = on_order(file, |trace, tariff| depth_at(trace, rate, tariff));
+    same(&calls::depth(file, Rate(rate)), &forward.map(Depth));
+    let from_end = on_order(file, |list, tariff| depth_by_needs(list, rate, tariff));
+    let product = calls::depth_from_end(file, Rate(rate));
+    same(&product, &from_end.map(Depth));
+    same(&product, &calls::depth(&turned_order(file), Rate(rate)));
+    [forward, from_end]
 }
 
 /// Entries that a call is lent, each of them any number.
@@ -154,4 +177,14 @@ pub fn said(text: &str) -> Answer<Vec<u8>> {
         None => Ok(text.as_bytes().to_vec()),
         Some(number) => Err(number.trim_end().parse().expect("a refusal line has a number")),
     }
+}
+
+/// What a program prints for its words and its standard input.
+pub fn printed(program: &str, words: &[&str], input: &[u8]) -> String {
+    let path = format!("{}/../target/bin/{program}", env!("CARGO_MANIFEST_DIR"));
+    let piped = Command::new(path).args(words).stdin(Stdio::piped()).stdout(Stdio::piped()).spawn();
+    let mut child = piped.unwrap_or_else(|_| panic!("the program is not there: run `rt check {program}` first"));
+    child.stdin.take().expect("the input is piped").write_all(input).expect("the input is read");
+    let output = child.wait_with_output().expect("the program ends");
+    String::from_utf8(output.stdout).expect("the program prints text")
 }
