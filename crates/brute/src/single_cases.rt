@@ -1,7 +1,8 @@
-// The depth call and the single call against trials of every bucket: a small case, its trace and tariff,
+// The depth calls and the single call against trials of every bucket: a small case, its trace and tariff,
 // and whether the calls answer as the trials do.
 use depth::DepthAnswer;
 use depth::depth_at;
+use depth::depth_from_end;
 use samples::plain::Best;
 use samples::plain::cheapest;
 use samples::plain::smallest;
@@ -19,17 +20,19 @@ pub const CASES: u32 = 450_000;
 // Case n: four demands, how many of them, and a tariff with fee 4.
 pub fn agrees(n: u32) -> bool {
     let trace: [u16; 4] = [demand(n), demand(n / 5), demand(n / 25), demand(n / 125)];
+    let turned: [u16; 4] = [trace[3], trace[2], trace[1], trace[0]];
     let small = small_tariff(n / 2500, 4);
     match n / 625 % 4 {
-        0 => both_agree(&trace[..1], small),
-        1 => both_agree(&trace[..2], small),
-        2 => both_agree(&trace[..3], small),
-        _ => both_agree(&trace, small),
+        0 => all_agree(&trace[..1], &turned[3..], small),
+        1 => all_agree(&trace[..2], &turned[2..], small),
+        2 => all_agree(&trace[..3], &turned[1..], small),
+        _ => all_agree(&trace, &turned, small),
     }
 }
 
-fn both_agree(trace: &[u16], small: Small) -> bool {
-    singles_agree(trace, small) & depths_agree(trace, small)
+// A trace, and the same turned round, last period first.
+fn all_agree(trace: &[u16], turned: &[u16], small: Small) -> bool {
+    singles_agree(trace, small) & depths_agree(trace, turned, small)
 }
 
 fn singles_agree(trace: &[u16], small: Small) -> bool {
@@ -51,17 +54,21 @@ fn same_single(a: SingleAnswer, best: Best) -> bool {
 }
 
 // At every rate up to the cap.
-fn depths_agree(trace: &[u16], small: Small) -> bool {
-    let tariff = tariff_of(small);
+fn depths_agree(trace: &[u16], turned: &[u16], small: Small) -> bool {
     for rate in 0..=small.rate_cap {
-        if !same_depth(
-            depth_at(trace, Rate(rate as u32), tariff),
-            smallest(trace, small, rate),
-        ) {
+        if !both_agree(trace, turned, small, rate) {
             return false;
         }
     }
     true
+}
+
+fn both_agree(trace: &[u16], turned: &[u16], small: Small, rate: u8) -> bool {
+    let tariff = tariff_of(small);
+    let depth = smallest(trace, small, rate);
+    let rate = Rate(rate as u32);
+    same_depth(depth_at(trace, rate, tariff), depth)
+        & same_depth(depth_from_end(turned, rate, tariff), depth)
 }
 
 fn same_depth(a: DepthAnswer, depth: u32) -> bool {

@@ -1,5 +1,5 @@
-// Prints the lettered figures of document 01 as the calls give them that are offered. The rows of depth,
-// single bucket, series and trial stand in the file stdin, which says its form.
+// Prints the lettered figures of document 01, and job 2's of document 02, as the calls give them that are
+// offered. The rows of depth, single bucket, series and trial stand in the file stdin, which says its form.
 use cases::DEMANDS;
 use cases::bucket_of;
 use cases::demands;
@@ -36,7 +36,7 @@ fn each_case(input: &[u8]) {
     }
 }
 
-// A row: its letter, and the answer.
+// A row: its name, and the answer.
 fn case(line: &[u8]) {
     let kind = first(line);
     if kind == b'#' {
@@ -52,6 +52,7 @@ fn case(line: &[u8]) {
 fn answer(kind: u8, figures: &[u8], trace: &[u16], rate: Rate) {
     match kind {
         b'd' => report::depth(metqoraz::depth_at(trace, rate, tariff_of(figures))),
+        b'e' => report::depth(metqoraz::depth_from_end(trace, rate, tariff_of(figures))),
         b'b' => report::single(metqoraz::single(trace, tariff_of(figures))),
         b't' => report::trial(metqoraz::trial(bucket_of(figures), factor_of(figures), trace)),
         b's' => print_series(trace, tariff_of(figures)),

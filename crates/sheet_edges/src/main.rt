@@ -1,7 +1,8 @@
 // Prints the texts of the sheet at the edges of document 01: figures, refusal lines, and what the three
-// services write of an order, or the refusal; and whether the rest of the text is kept. Cases stand in the
-// file stdin, which says its form; orders that a rule gives are made here.
+// services write of an order and the line of its depth, or the refusal; and whether the rest of the text is
+// kept. Cases stand in the file stdin, which says its form; orders that a rule gives are made here.
 mod damaged;
+mod depths;
 mod figures;
 mod long;
 mod refusals;
@@ -30,6 +31,7 @@ fn each_case(input: &[u8]) {
 
 fn case(line: &[u8]) {
     match first(line) {
+        b'd' => depths::depth_case(line),
         b'f' => figures::figure_case(line),
         b'r' => refusals::refusal_case(line),
         b's' => service_texts::services_case(line),

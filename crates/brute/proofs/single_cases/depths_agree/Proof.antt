@@ -5,10 +5,10 @@ use Rattle.brute.proofs.single_cases.depths_agree.Statement.{statement}
 use Rattle.brute.proofs.single_cases.depths_agree.Tie as tie
 
 abbrev Inv-loop : tie.InvT-loop
-Inv-loop trace small tariff rate₀ rate-end rate = rate ≤ rate-end
+Inv-loop trace turned small rate₀ rate-end rate = rate ≤ rate-end
 
 abbrev μ-loop : tie.MeasureT-loop
-μ-loop trace small tariff rate₀ rate-end rate = rate-end - rate
+μ-loop trace turned small rate₀ rate-end rate = rate-end - rate
 
 pub depths-agree-spec : {M : Type 1} → statement M
 depths-agree-spec =
@@ -16,11 +16,7 @@ depths-agree-spec =
     (tie.spec
     Inv-loop
     μ-loop
-    (λ c κs. search needs)
     (λ c. search needs)
-    (λ c. search needs)
-    (λ c κs. search needs)
-    (λ c κs. search needs)
     (λ c κs. search needs)
     (λ c. search needs)
     (λ c. search needs)
