@@ -1,5 +1,4 @@
 // Damaged orders: the printed case's with one byte changed, and with bytes missing or one too many.
-use crate::depths::depths;
 use crate::service_texts::services;
 use crate::service_texts::sheet_in;
 use cases::bucket_of;
@@ -11,7 +10,6 @@ use samples::file_bytes::front;
 use samples::tariffs::printed_case;
 use samples::traces::CASE;
 use terms::Bucket;
-use terms::Rate;
 ghost use Prim.Native.Nat.{_<_};
 
 // The bytes of the printed case's order.
@@ -42,20 +40,13 @@ fn raised(file: [u8; FILE_ROOM], at: usize, byte: u8, by: u8)
     report::figure(b"byte", at as u64);
     report::figure(b" raised by", by as u64);
     sheet_in(front(&order, ORDER_BYTES), LENT_BYTES);
-    depths(b"depth", front(&order, ORDER_BYTES), Rate(5), ORDER_BYTES);
 }
 
-// All three services and the depth at the bucket's rate; where the order is refused, room or none makes no
-// difference.
+// All services; where the order is refused, room or none makes no difference.
 fn each_length(file: [u8; FILE_ROOM], bucket: Bucket) {
     for length in 0..56 {
         report::figure(b"bytes", length as u64);
         report::end_line();
-        all_texts(front(&file, length), bucket, length);
+        services(front(&file, length), bucket, length);
     }
-}
-
-fn all_texts(order: &[u8], bucket: Bucket, room: usize) {
-    services(order, bucket, room);
-    depths(b"depth", order, bucket.rate, room);
 }

@@ -1,8 +1,7 @@
-// Prints the texts of the sheet at the edges of document 01: figures, refusal lines, and what the three
-// services write of an order and the line of its depth, or the refusal; and whether the rest of the text is
-// kept. Cases stand in the file stdin, which says its form; orders that a rule gives are made here.
+// Prints the texts of the sheet at the edges of document 01: figures, refusal lines, and what the
+// services write of an order, or the refusal; and whether the rest of the text is kept. Cases stand in the
+// file stdin, which says its form; orders that a rule gives are made here.
 mod damaged;
-mod depths;
 mod figures;
 mod long;
 mod refusals;
@@ -31,7 +30,6 @@ fn each_case(input: &[u8]) {
 
 fn case(line: &[u8]) {
     match first(line) {
-        b'd' => depths::depth_case(line),
         b'f' => figures::figure_case(line),
         b'r' => refusals::refusal_case(line),
         b's' => service_texts::services_case(line),

@@ -1,4 +1,4 @@
-// One order: what each of the three services writes of it into a text with so much room.
+// One order: what each service writes of it into a text with so much room.
 use cases::DEMANDS;
 use cases::bucket_of;
 use cases::demands;
@@ -14,6 +14,7 @@ use samples::file_bytes::front;
 use samples::file_bytes::is_lent;
 use samples::file_bytes::lent_front;
 use terms::Bucket;
+use terms::Rate;
 use terms::Tariff;
 
 // A case: its name in a line of its own, where it has one, and the texts.
@@ -33,7 +34,8 @@ pub fn services_case(line: &[u8]) {
     );
 }
 
-// An order of this tariff and trace in all three, the bucket being for the trial.
+// An order of this tariff and trace in all of them, the bucket being for the trial and its rate for the
+// depths.
 pub fn services_of(tariff: Tariff, trace: &[u16], bucket: Bucket, room: usize) {
     let mut file = [LENT; LENT_BYTES];
     let answer = write_order(tariff, trace, &mut file);
@@ -50,6 +52,10 @@ pub fn services(order: &[u8], bucket: Bucket, room: usize) {
     report::number(bucket.depth.0 as u64);
     report::figure(b" in", room as u64);
     trial_in(order, bucket, room);
+    report::figure(b"depth in", room as u64);
+    depth_in(order, bucket.rate, room);
+    report::figure(b"from the end in", room as u64);
+    depth_from_end_in(order, bucket.rate, room);
 }
 
 pub fn sheet_in(order: &[u8], room: usize) {
@@ -67,6 +73,18 @@ fn single_in(order: &[u8], room: usize) {
 fn trial_in(order: &[u8], bucket: Bucket, room: usize) {
     let mut text = [LENT; LENT_BYTES];
     let answer = services::trial_line(order, bucket, lent_front(&mut text, room));
+    print(answer, &text);
+}
+
+fn depth_in(order: &[u8], rate: Rate, room: usize) {
+    let mut text = [LENT; LENT_BYTES];
+    let answer = services::depth_line(order, rate, lent_front(&mut text, room));
+    print(answer, &text);
+}
+
+fn depth_from_end_in(order: &[u8], rate: Rate, room: usize) {
+    let mut text = [LENT; LENT_BYTES];
+    let answer = services::depth_from_end_line(order, rate, lent_front(&mut text, room));
     print(answer, &text);
 }
 
