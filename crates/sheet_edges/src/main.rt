@@ -6,7 +6,6 @@ mod figures;
 mod long;
 mod refusals;
 mod service_texts;
-mod small;
 
 use cases::first;
 use cases::line;
@@ -17,7 +16,6 @@ fn main() {
     let mut input = io::large_buffer();
     let length = read_all(&mut input, b"sheet_edges: standard input");
     each_case(&input[..length]);
-    small::orders();
     damaged::edges();
     long::edges();
 }

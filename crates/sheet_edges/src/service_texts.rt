@@ -36,7 +36,7 @@ pub fn services_case(line: &[u8]) {
 
 // An order of this tariff and trace in all of them, the bucket being for the trial and its rate for the
 // depths.
-pub fn services_of(tariff: Tariff, trace: &[u16], bucket: Bucket, room: usize) {
+fn services_of(tariff: Tariff, trace: &[u16], bucket: Bucket, room: usize) {
     let mut file = [LENT; LENT_BYTES];
     let answer = write_order(tariff, trace, &mut file);
     services(front(&file, report::filled_of(answer)), bucket, room);
