@@ -3,7 +3,7 @@
 -- out: the one before period 1 is its opening, or its ending where the list comes last period first; the greatest is
 -- its stretch.
 -- Assumes nothing.
-use Prim.Native.Nat.{ℕ, zero, suc, _+_, _-_, _≤_, max}
+use Prim.Native.Nat.{ℕ, zero, suc, _≤_, max}
 use native.Mathlib.Omega.{arith}
 use native.Mathlib.Nat.{add-comm, le-trans, le-max-left, le-max-right, max-eq-left, max-eq-right}
 use mathlib.Core.Path.{_≡_, refl, sym, ap, _∙_}
