@@ -6,6 +6,7 @@ use terms::Factor;
 use terms::Rate;
 use terms::Refusal;
 use terms::numbers::greater;
+use terms::numbers::short_by;
 ghost use Prim.Native.Nat.{_-_, _*_, _≤_};
 ghost use mathlib.Core.Path.{_≡_};
 ghost use Rattle.terms.specs.Limits.{rateLimit, depthLimit, partsLimit, traceLimit};
@@ -92,13 +93,6 @@ impl Walk {
         let fresh = rounded_up(opening as u32, factor.p);
         DepthAnswer::Found(Depth(greater(self.stretch, fresh)))
     }
-}
-
-// What b falls short of a by.
-fn short_by(a: u32, b: u32) -> u32
-    ensures { λ r. ⌜ r ≡ a - b ⌝ }
-{
-    if b < a { a - b } else { 0 }
 }
 
 // x / p, rounded up.

@@ -32,11 +32,6 @@ abbrev pub coded : Answer ℕ → ℕ
 coded (figures n) = n
 coded (refused n) = refusedFrom + n
 
--- What a lent number holds after a call: the figure that is answered for it; on a refusal what it held.
-abbrev pub figureOr : {A : Type 0} → Answer A → A → A
-figureOr (figures x) old = x
-figureOr (refused n) old = old
-
 -- The starting factor p/q.
 abbrev pub factorOf : ℕ → ℕ → Factor
 factorOf p q = record { p = p; q = q }

@@ -2,9 +2,9 @@
 -- Assumes nothing.
 use Prim.Native.Nat.{ℕ}
 use mathlib.Core.Path.{_≡_, sym, ap, _∙_}
-use Rattle.terms.specs.Answer.{Answer, figures, refused, onFigures}
+use Rattle.terms.specs.Answer.{Answer, figures, refused, onFigures, figureOr}
 use Rattle.checking.specs.Check.{Verdict}
-use Rattle.exports.specs.Answers.{coded, excessOr, figureOr}
+use Rattle.exports.specs.Answers.{coded, excessOr}
 
 module _ {A : Type 0} (a : Answer A) where
   pub code-refused : (figure : A → ℕ) (n r : ℕ) → a ≡ refused n → r ≡ coded (refused n) → r ≡ coded (onFigures figure a)

@@ -4,7 +4,7 @@ use Prim.Native.Nat.{ℕ, _≤_}
 use mathlib.Core.Path.{_≡_, sym, ap, subst, _∙_}
 use mathlib.Core.List.{List}
 use lib.ListN.{length, take}
-use Rattle.terms.specs.Answer.{Answer, figures, refused, onFigures}
+use Rattle.terms.specs.Answer.{Answer, figures, refused, onFigures, figureOr}
 use Rattle.terms.specs.AnswerLaws.{on-figures, on-refused, then-figures, then-refused}
 use Rattle.terms.specs.Limits.{traceLimit}
 use Rattle.terms.specs.Records.{Cutting}
@@ -20,7 +20,7 @@ use Rattle.planning.specs.declared.planned_orders.PlannedRecords.{PlannedRecord
 use Rattle.planning.specs.Planning.{planned, plannedSays}
 use Rattle.planning.specs.CallLaws.{PlansOrder, plan-refused, the-plan, plan-found, plan-figures, records-are}
 use Rattle.booking.specs.Booking.{planFigures}
-use Rattle.exports.specs.Answers.{coded, figureOr, planFileIn, plannedCost, readIn}
+use Rattle.exports.specs.Answers.{coded, planFileIn, plannedCost, readIn}
 use Rattle.exports.specs.ListLaws.{lists-kept}
 use Rattle.exports.specs.Lists.{RecordLists, Filled, roomOf}
 use Rattle.exports.specs.LentNumberLaws.{code-refused, code-found, number-kept, number-found}

@@ -11,10 +11,10 @@ use terms::Bucket;
 use terms::Depth;
 use terms::Rate;
 ghost use mathlib.Core.Path.{_≡_};
-ghost use Rattle.terms.specs.Answer.{onFigures};
+ghost use Rattle.terms.specs.Answer.{figureOr, onFigures};
 ghost use Rattle.single.specs.Single.{bucketOf};
 ghost use Rattle.services.specs.Services.{depthFor, depthFromEndFor, singleFor, trialFor};
-ghost use Rattle.exports.specs.Answers.{coded, figureOr};
+ghost use Rattle.exports.specs.Answers.{coded};
 
 // The smallest depth that carries an order's trace at a rate; or refusal 1 to 5 of the order, 5 of the
 // rate or 7.

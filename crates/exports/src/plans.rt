@@ -12,10 +12,10 @@ use terms::limits::TRACE_LIMIT;
 use terms::numbers::shorter;
 ghost use mathlib.Core.Path.{_≡_};
 ghost use lib.ListN.{length};
-ghost use Rattle.terms.specs.Answer.{onFigures};
+ghost use Rattle.terms.specs.Answer.{figureOr, onFigures};
 ghost use Rattle.terms.specs.Lent.{filled};
 ghost use Rattle.plan_file.specs.Plan.{bucketsOf};
-ghost use Rattle.exports.specs.Answers.{coded, figureOr, planFileIn, plannedCost, readIn};
+ghost use Rattle.exports.specs.Answers.{coded, planFileIn, plannedCost, readIn};
 ghost use Rattle.exports.specs.Lists.{Filled, lists};
 
 // The cost of the cheapest plan for an order; or refusal 1 to 5 of the order or 7.

@@ -18,6 +18,11 @@ abbrev pub onFigures : {A B : Type 0} → (A → B) → Answer A → Answer B
 onFigures f (figures x) = figures (f x)
 onFigures f (refused n) = refused n
 
+-- The figures of an answer, or on a refusal something else, such as what a lent number held.
+abbrev pub figureOr : {A : Type 0} → Answer A → A → A
+figureOr (figures x) other = x
+figureOr (refused n) other = other
+
 -- A further call made with the figures of an answer; a refusal stays.
 abbrev pub andThen : {A B : Type 0} → Answer A → (A → Answer B) → Answer B
 andThen (figures x) next = next x

@@ -1,0 +1,3 @@
+-- The definitions that contracts cite, and their laws.
+pub mod Cause
+pub mod PeriodNeedLaws

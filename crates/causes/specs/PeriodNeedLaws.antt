@@ -1,0 +1,122 @@
+-- The need of periods against the needs of the bucket and of the walk. What is needed before a trace is the greatest
+-- need of its first periods (`needBefore`, by which a bucket carries it), and a walk's ending is the greatest need of
+-- its last ones: none is above it, and one is equal to it.
+-- Assumes nothing.
+use Prim.Native.Nat.{ℕ, zero, suc, _+_, _-_, _*_, _≤_, _<_}
+use native.Mathlib.Omega.{arith}
+use native.Mathlib.Nat.{mul-suc, mul-zero}
+use mathlib.Core.Path.{_≡_, refl}
+use mathlib.Core.Bool.{Bool, true, false}
+use mathlib.Core.List.{List, [], _∷_, _++_, foldl}
+use mathlib.Core.Logic.{_⊎_, inl, inr}
+use borrow.Author.Tests.{leb-true, leb-false, lt-ltb, le-ltb}
+use lib.Dec.{leb, ltb}
+use lib.ListN.{length, take, drop}
+use Rattle.terms.specs.Limits.{demandLimit}
+use Rattle.terms.specs.Records.{total}
+use Rattle.bucket.specs.Laws.{demands-tail}
+use Rattle.bucket.specs.Trace.{Demands}
+use Rattle.depth.specs.declared.walk.Walk.{Walk}
+use Rattle.depth.specs.Need.{needBefore}
+use Rattle.depth.specs.Walk.{pushed}
+use Rattle.causes.specs.Cause.{needOf}
+
+-- All demands, summed.
+abbrev pub demandOf : List ℕ → ℕ
+demandOf ds = total (λ d. d) ds
+
+-- Periods whose need is at least n, and not by stopping at 0.
+abbrev Needs : ℕ → ℕ → List ℕ → Type 0
+Needs r n ds = n + r * length ds ≤ demandOf ds
+
+needs-of : (r n : ℕ) (ds : List ℕ) → Needs r n ds → n ≤ needOf r ds
+unfolding needOf
+needs-of r n ds h = omega arith
+
+none-needed : (r : ℕ) → Needs r 0 []
+unfolding total
+none-needed r = omega (arith, mul-zero r)
+
+-- ---- First periods
+
+pub front-need : (r n : ℕ) (ds : List ℕ) → needOf r (take n ds) ≤ needBefore r ds
+unfolding needOf needBefore total
+front-need r zero ds = omega arith
+front-need r (suc n) [] = omega arith
+front-need r (suc n) (d ∷ ds) = omega (arith, front-need r n ds, mul-suc r (length (take n ds)))
+
+-- Some of them, all within the trace.
+record FrontNeeds (r : ℕ) (ds : List ℕ) (b : ℕ) : Type 0 where
+  count : ℕ
+  inside : count ≤ length ds
+  enough : Needs r b (take count ds)
+
+front-one : (r : ℕ) (ds : List ℕ) → FrontNeeds r ds (needBefore r ds)
+unfolding needBefore total
+front-one r [] = record { count = 0; inside = omega arith; enough = none-needed r }
+front-one r (d ∷ ds) = go (front-one r ds) (leb (d + needBefore r ds) r) refl
+  where
+    go : FrontNeeds r ds (needBefore r ds) → (b : Bool) → leb (d + needBefore r ds) r ≡ b → FrontNeeds r (d ∷ ds) (d + needBefore r ds - r)
+    go k true h = record { count = 0; inside = omega arith; enough = omega (arith, none-needed r, leb-true (d + needBefore r ds) r h) }
+    go k false h =
+        record {
+          count = suc (k .count);
+          inside = omega (arith, k .inside);
+          enough = omega (arith, k .enough, mul-suc r (length (take (k .count) ds)), leb-false (d + needBefore r ds) r h);
+        }
+
+-- ---- Last periods, in a walk from w on
+
+module _ (r : ℕ) where
+  all-need : (w : Walk) (es : List ℕ) → w .ending + demandOf es - r * length es ≤ foldl (pushed r) w es .ending
+  unfolding total pushed
+  all-need w [] = omega arith
+  all-need w (d ∷ es) = omega (arith, all-need (pushed r w d) es, mul-suc r (length es))
+
+  back-need : (w : Walk) (n : ℕ) (es : List ℕ) → needOf r (drop n es) ≤ foldl (pushed r) w es .ending
+  unfolding needOf total
+  back-need w zero es = omega (arith, all-need w es)
+  back-need w (suc n) [] = omega arith
+  back-need w (suc n) (d ∷ es) = back-need (pushed r w d) n es
+
+  -- All of them, together with what w ends with; or some of the last.
+  record BackNeeds (es : List ℕ) (b : ℕ) : Type 0 where
+    before : ℕ
+    inside : before ≤ length es
+    enough : Needs r b (drop before es)
+
+  back-one : (w : Walk) (es : List ℕ) → let b = foldl (pushed r) w es .ending in (b + r * length es ≤ w .ending + demandOf es) ⊎ BackNeeds es b
+  unfolding total pushed
+  back-one w [] = inl (omega (arith, mul-zero r))
+  back-one w (d ∷ es) = go (back-one (pushed r w d) es) (leb r (w .ending + d)) refl
+    where
+      b : ℕ
+      b = foldl (pushed r) (pushed r w d) es .ending
+
+      go : (b + r * length es ≤ w .ending + d - r + demandOf es) ⊎ BackNeeds es b → (t : Bool) → leb r (w .ending + d) ≡ t
+          → (b + r * length (d ∷ es) ≤ w .ending + demandOf (d ∷ es)) ⊎ BackNeeds (d ∷ es) b
+      go (inl h) true e = inl (omega (arith, mul-suc r (length es), leb-true r (w .ending + d) e))
+      go (inl h) false e = inr (record { before = 1; inside = omega arith; enough = omega (arith, leb-false r (w .ending + d) e) })
+      go (inr k) t e = inr (record { before = suc (k .before); inside = omega (arith, k .inside); enough = k .enough })
+
+-- ---- Sums
+
+pub demand-more : (ds : List ℕ) (d : ℕ) → demandOf (ds ++ (d ∷ [])) ≡ demandOf ds + d
+unfolding total
+demand-more [] d = omega arith
+demand-more (e ∷ ds) d = omega (arith, demand-more ds d)
+
+pub demand-le : (ds : List ℕ) → Demands ds → demandOf ds ≤ demandLimit * length ds
+unfolding total
+demand-le [] h = omega arith
+demand-le (d ∷ ds) h = omega (arith, h .each 0, demand-le ds (demands-tail h))
+
+-- Demands and tokens summed apart tell whether y tokens fall short.
+module _ (r y demands tokens : ℕ) (ds : List ℕ) (e : demands ≡ demandOf ds) (f : tokens ≡ y + r * length ds) where
+  pub sums-short : tokens < demands → ltb y (needOf r ds) ≡ true
+  unfolding needOf
+  sums-short l = lt-ltb y _ (omega arith)
+
+  pub sums-enough : demands ≤ tokens → ltb y (needOf r ds) ≡ false
+  unfolding needOf
+  sums-enough l = le-ltb y _ (omega arith)
