@@ -4,22 +4,25 @@
 -- Assumes nothing.
 use Prim.Native.Nat.{ℕ, zero, suc, _+_, _-_, _*_, _≤_, _<_}
 use native.Mathlib.Omega.{arith}
-use native.Mathlib.Nat.{mul-suc, mul-zero}
-use mathlib.Core.Path.{_≡_, refl}
+use native.Mathlib.Nat.{le-trans, mul-suc, mul-zero}
+use mathlib.Core.Path.{_≡_, refl, sym, ap, subst, _∙_}
 use mathlib.Core.Bool.{Bool, true, false}
 use mathlib.Core.List.{List, [], _∷_, _++_, foldl}
-use mathlib.Core.Logic.{_⊎_, inl, inr}
-use borrow.Author.Tests.{leb-true, leb-false, lt-ltb, le-ltb}
+use mathlib.Core.Logic.{_⊎_, inl, inr, ⊎-elim}
+use borrow.Author.Tests.{leb-true, leb-false, ltb-true, ltb-false, lt-ltb, le-ltb}
 use lib.Dec.{leb, ltb}
-use lib.ListN.{length, take, drop}
+use lib.ListN.{length, take, drop, drop-of-length-le}
+use lib.Seq.{drop-drop, length-slice, slice}
+use Rattle.terms.specs.Answer.{Answer, figures, refused}
 use Rattle.terms.specs.Limits.{demandLimit}
 use Rattle.terms.specs.Records.{total}
 use Rattle.bucket.specs.Laws.{demands-tail}
 use Rattle.bucket.specs.Trace.{Demands}
 use Rattle.depth.specs.declared.walk.Walk.{Walk}
 use Rattle.depth.specs.Need.{needBefore}
-use Rattle.depth.specs.Walk.{pushed}
-use Rattle.causes.specs.Cause.{needOf}
+use Rattle.depth.specs.SearchLaws.{IsFirstFrom, NoneFrom, from-is}
+use Rattle.depth.specs.Walk.{pushed, started, walkOf}
+use Rattle.causes.specs.Cause.{fromTo, isFound, needOf, short, stretchStart}
 
 -- All demands, summed.
 abbrev pub demandOf : List ℕ → ℕ
@@ -32,6 +35,10 @@ Needs r n ds = n + r * length ds ≤ demandOf ds
 needs-of : (r n : ℕ) (ds : List ℕ) → Needs r n ds → n ≤ needOf r ds
 unfolding needOf
 needs-of r n ds h = omega arith
+
+none-need : (r : ℕ) → needOf r [] ≡ 0
+unfolding needOf total
+none-need r = omega arith
 
 none-needed : (r : ℕ) → Needs r 0 []
 unfolding total
@@ -64,6 +71,14 @@ front-one r (d ∷ ds) = go (front-one r ds) (leb (d + needBefore r ds) r) refl
           inside = omega (arith, k .inside);
           enough = omega (arith, k .enough, mul-suc r (length (take (k .count) ds)), leb-false (d + needBefore r ds) r h);
         }
+
+-- So tokens that meet the need of every number of first periods meet what is needed before the trace.
+pub fronts-met : (r y : ℕ) (ds : List ℕ) → ((n : ℕ) → 1 ≤ n → n ≤ length ds → needOf r (take n ds) ≤ y) → needBefore r ds ≤ y
+fronts-met r y ds met = go (front-one r ds .count) (front-one r ds .inside) (needs-of r _ _ (front-one r ds .enough))
+  where
+    go : (n : ℕ) → n ≤ length ds → needBefore r ds ≤ needOf r (take n ds) → needBefore r ds ≤ y
+    go zero l h = omega (arith, h, none-need r)
+    go (suc n) l h = le-trans h (met (suc n) (omega arith) l)
 
 -- ---- Last periods, in a walk from w on
 
@@ -98,6 +113,46 @@ module _ (r : ℕ) where
       go (inl h) true e = inl (omega (arith, mul-suc r (length es), leb-true r (w .ending + d) e))
       go (inl h) false e = inr (record { before = 1; inside = omega arith; enough = omega (arith, leb-false r (w .ending + d) e) })
       go (inr k) t e = inr (record { before = suc (k .before); inside = omega (arith, k .inside); enough = k .enough })
+
+  ending-one : (es : List ℕ) → BackNeeds es (walkOf r es .ending)
+  unfolding walkOf
+  ending-one es = ⊎-elim (λ h. record { before = 0; inside = omega arith; enough = omega (arith, h) }) (λ k. k) (back-one started es)
+
+-- So a stretch up to period v, from period 2 or later, is short exactly where the walk of those periods ends with more
+-- than the depth.
+module _ (r C : ℕ) (ds : List ℕ) (v : ℕ) (l : v ≤ length ds) where
+  abbrev ending : ℕ
+  ending = walkOf r (slice 1 v ds) .ending
+
+  later : (n u : ℕ) → u ≡ n + 2 → drop n (slice 1 v ds) ≡ fromTo u v ds
+  later n u e = let f : 1 + n ≡ u - 1 = omega arith in drop-drop n 1 (take v ds) ∙ ap (λ (m : ℕ). slice m v ds) f
+
+  short-ends : (u : ℕ) → 2 ≤ u → short r C ds u v ≡ true → C < ending
+  unfolding walkOf
+  short-ends u h e =
+      let k = subst (λ (es : List ℕ). needOf r es ≤ ending) (later (u - 2) u (omega arith)) (back-need r started (u - 2) (slice 1 v ds)) in
+      omega (arith, k, ltb-true C (needOf r (fromTo u v ds)) e)
+
+  none-ends : NoneFrom (λ u. short r C ds u v) (v - 1) 2 → ending ≤ C
+  none-ends none = let k = ending-one r (slice 1 v ds) in go k (ltb (k .before + 1) v) refl
+    where
+      go : (k : BackNeeds r (slice 1 v ds) ending) (b : Bool) → ltb (k .before + 1) v ≡ b → ending ≤ C
+      go k true e =
+          let u : ℕ = k .before + 2 in
+          let h = ltb-true (k .before + 1) v e in
+          let m = none u (omega arith) (omega (arith, h)) in
+          omega (arith, needs-of r ending _ (k .enough), ap (needOf r) (later (k .before) u refl), ltb-false C (needOf r (fromTo u v ds)) m)
+      go k false e =
+          let h = ltb-false (k .before + 1) v e in
+          let z : length (slice 1 v ds) ≤ k .before = omega (arith, h, length-slice 1 v ds l) in
+          omega (arith, needs-of r ending _ (k .enough), ap (needOf r) (drop-of-length-le (slice 1 v ds) z), none-need r)
+
+  pub stretch-found : isFound (stretchStart r C ds v) ≡ ltb C ending
+  stretch-found = go (stretchStart r C ds v) (from-is (λ u. short r C ds u v) (v - 1) 2)
+    where
+      go : (x : Answer ℕ) → IsFirstFrom (λ u. short r C ds u v) (v - 1) 2 x → isFound x ≡ ltb C ending
+      go (figures u) k = sym (lt-ltb C _ (short-ends u (k .from) (k .passes)))
+      go (refused n) k = sym (le-ltb C _ (none-ends (k .1)))
 
 -- ---- Sums
 

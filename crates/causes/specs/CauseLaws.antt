@@ -1,0 +1,124 @@
+-- What a cause says is true of the trace, and one is always found for a depth above 0. Were no opening and no stretch
+-- short, a depth one smaller would meet the needs before every period (`NeedLaws`), and so it would carry the trace.
+-- Assumes nothing.
+use Prim.Native.Nat.{ℕ, zero, suc, _+_, _-_, _≤_, _<_}
+use native.Mathlib.Omega.{arith}
+use native.Mathlib.Nat.{le-trans}
+use mathlib.Core.Path.{_≡_, refl, sym, ap, subst, _∙_}
+use mathlib.Core.Bool.{Bool, true, false, cond}
+use mathlib.Core.List.{List}
+use borrow.Author.Tests.{eqb-true, eqb-false, ltb-true, ltb-false}
+use lib.Dec.{eqb, ltb}
+use lib.ListN.{length, take, drop, length-drop, take-append-drop}
+use lib.Seq.{drop-at, length-take-le, slice, take-add}
+use Rattle.terms.specs.declared.Tariff.{Tariff}
+use Rattle.terms.specs.Answer.{Answer, figures, refused, figureOr, onFigures, andThen}
+use Rattle.terms.specs.Bools.{not-true-false, true-false}
+use Rattle.bucket.specs.Step.{startOf}
+use Rattle.bucket.specs.Trace.{carries, carriesFrom}
+use Rattle.depth.specs.Depth.{depthOf}
+use Rattle.depth.specs.Need.{needBefore}
+use Rattle.depth.specs.NeedLaws.{Meets, carried-meets, depth-meets-least}
+use Rattle.depth.specs.SearchLaws.{FirstFrom, IsFirstFrom, NoneFrom, from-is}
+use Rattle.causes.specs.Cause.{SetBy, nothing, opening, stretch, fromTo, needOf, short, isFound, openingEnd, stretchStart, stretchEnd, shortOpening, shortStretch, causeOf}
+use Rattle.causes.specs.PeriodNeedLaws.{front-need, fronts-met}
+
+-- ---- What is true of a cause, y being the starting tokens of depth C
+
+-- Periods 1 to v are the first whose need the starting tokens fall short of.
+pub record OpeningShort (r y : ℕ) (ds : List ℕ) (v : ℕ) : Type 0 where
+  pub some : 1 ≤ v
+  pub inside : v ≤ length ds
+  pub short-of : y < needOf r (fromTo 1 v ds)
+  pub least : (w : ℕ) → 1 ≤ w → w < v → needOf r (fromTo 1 w ds) ≤ y
+
+-- No opening is short.
+abbrev pub OpeningsMet : ℕ → ℕ → List ℕ → Type 0
+OpeningsMet r y ds = (w : ℕ) → 1 ≤ w → w ≤ length ds → needOf r (fromTo 1 w ds) ≤ y
+
+-- No stretch that ends with period w is short.
+abbrev pub StretchesMet : ℕ → ℕ → List ℕ → ℕ → Type 0
+StretchesMet r C ds w = (u : ℕ) → 2 ≤ u → u ≤ w → needOf r (fromTo u w ds) ≤ C
+
+-- No opening is short; periods u to v are a stretch whose need the depth falls short of, none that ends earlier is
+-- short, and none that ends with them and begins earlier.
+pub record StretchShort (r y C : ℕ) (ds : List ℕ) (u v : ℕ) : Type 0 where
+  pub openings : OpeningsMet r y ds
+  pub late : 2 ≤ u
+  pub ordered : u ≤ v
+  pub inside : v ≤ length ds
+  pub short-of : C < needOf r (fromTo u v ds)
+  pub least-last : (w : ℕ) → 2 ≤ w → w < v → StretchesMet r C ds w
+  pub least-first : (w : ℕ) → 2 ≤ w → w < u → needOf r (fromTo w v ds) ≤ C
+
+-- What a cause says of a depth B.
+abbrev pub IsCause : ℕ → ℕ → ℕ → List ℕ → ℕ → SetBy → Type 0
+IsCause p q r ds B nothing = B ≡ 0
+IsCause p q r ds B (opening v) = OpeningShort r (startOf p q (B - 1)) ds v
+IsCause p q r ds B (stretch u v) = StretchShort r (startOf p q (B - 1)) (B - 1) ds u v
+
+-- ---- The searches
+
+module _ (r : ℕ) (ds : List ℕ) where
+  met : (y u v : ℕ) → short r y ds u v ≡ false → needOf r (fromTo u v ds) ≤ y
+  met y u v e = ltb-false y (needOf r (fromTo u v ds)) e
+
+  none-opens : (y : ℕ) → NoneFrom (λ v. short r y ds 1 v) (length ds) 1 → OpeningsMet r y ds
+  none-opens y none w h l = met y 1 w (none w h (omega arith))
+
+  none-stretches : (C v : ℕ) → isFound (stretchStart r C ds v) ≡ false → StretchesMet r C ds v
+  none-stretches C v e = go (stretchStart r C ds v) (from-is (λ u. short r C ds u v) (v - 1) 2) e
+    where
+      go : (x : Answer ℕ) → IsFirstFrom (λ u. short r C ds u v) (v - 1) 2 x → isFound x ≡ false → StretchesMet r C ds v
+      go (figures u) k e = absurd (true-false refl e)
+      go (refused n) k e = λ u h m. met C u v (k .1 u h (omega arith))
+
+  -- Periods n + 1 to n + m.
+  part : (n m : ℕ) → n ≤ length ds → slice n (n + m) ds ≡ take m (drop n ds)
+  part n m h = ap (drop n) (take-add n m ds) ∙ drop-at (take n ds) (take m (drop n ds)) n (length-take-le n ds h)
+
+  -- A bucket that no opening and no stretch is short for meets the needs before every period.
+  all-met : (y C : ℕ) → OpeningsMet r y ds → ((w : ℕ) → 2 ≤ w → w ≤ length ds → StretchesMet r C ds w) → Meets r C y ds
+  all-met y C openings stretches = record { first = fronts-met r y ds openings; later = later }
+    where
+      later : (n : ℕ) → needBefore r (drop (suc n) ds) ≤ C
+      later n = fronts-met r C (drop (suc n) ds) (λ m h l.
+          let inside : suc n + m ≤ length ds = omega (arith, length-drop (suc n) ds) in
+          let e : n + 2 - 1 ≡ suc n = omega arith in
+          let k = stretches (suc n + m) (omega arith) inside (n + 2) (omega arith) (omega arith) in
+          omega (arith, k, ap (λ (f : ℕ). needOf r (slice f (suc n + m) ds)) e, ap (needOf r) (part (suc n) m (omega arith))))
+
+-- ---- What the searches find for a depth above 0
+
+module _ (t : Tariff) (r : ℕ) (ds : List ℕ) where
+  abbrev y : ℕ → ℕ
+  y C = startOf (t .factor .p) (t .factor .q) C
+
+  -- An opening, or else a stretch.
+  pub data Found (C : ℕ) : Type 0 where
+    opens : (v : ℕ) → openingEnd r (y C) ds ≡ figures v → Found C
+    stretches : (u v n : ℕ) → openingEnd r (y C) ds ≡ refused n → stretchEnd r C ds ≡ figures v → stretchStart r C ds v ≡ figures u → Found C
+
+  module _ {B : ℕ} (e : depthOf t r ds ≡ figures B) (h : 1 ≤ B) where
+    abbrev C : ℕ
+    C = B - 1
+
+    -- A depth one smaller does not meet the needs.
+    not-met : Meets r C (y C) ds → ⊥
+    not-met k = omega (arith, depth-meets-least t r ds e C k)
+
+    pub found : Found C
+    found = opening-search (openingEnd r (y C) ds) refl (from-is (λ v. short r (y C) ds 1 v) (length ds) 1)
+      where
+        start-search : (v n : ℕ) → openingEnd r (y C) ds ≡ refused n → stretchEnd r C ds ≡ figures v → (x : Answer ℕ) → stretchStart r C ds v ≡ x → isFound x ≡ true → Found C
+        start-search v n o f (figures u) g k = stretches u v n o f g
+        start-search v n o f (refused m) g k = absurd (true-false k refl)
+
+        end-search : (n : ℕ) → openingEnd r (y C) ds ≡ refused n → OpeningsMet r (y C) ds
+            → (x : Answer ℕ) → stretchEnd r C ds ≡ x → IsFirstFrom (λ v. isFound (stretchStart r C ds v)) (length ds - 1) 2 x → Found C
+        end-search n o m (figures v) f k = start-search v n o f (stretchStart r C ds v) refl (k .passes)
+        end-search n o m (refused j) f k = absurd (not-met (all-met r ds (y C) C m (λ w i l. none-stretches r ds C w (k .1 w i (omega arith)))))
+
+        opening-search : (x : Answer ℕ) → openingEnd r (y C) ds ≡ x → IsFirstFrom (λ v. short r (y C) ds 1 v) (length ds) 1 x → Found C
+        opening-search (figures v) o k = opens v o
+        opening-search (refused n) o k = end-search n o (none-opens r ds (y C) (k .1)) (stretchEnd r C ds) refl (from-is (λ v. isFound (stretchStart r C ds v)) (length ds - 1) 2)
