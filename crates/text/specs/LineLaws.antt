@@ -13,7 +13,7 @@ use Rattle.terms.specs.RangeRules.{BucketRange}
 use Rattle.terms.specs.Refusals.{numberOf}
 use Rattle.text.specs.Numeral.{numeral, ended}
 use Rattle.text.specs.Megabits.{megabits}
-use Rattle.text.specs.Lines.{newline, space, depthLine, depthWord, noLine, refusalLine, refusedWord, singleLine, singleWord, trialLine, trialWord, yesLine, yesWord}
+use Rattle.text.specs.Lines.{newline, space, depthFields, depthWord, noLine, nothingFields, openingFields, openingWord, refusalLine, refusedWord, singleLine, singleWord, stretchFields, stretchWord, trialLine, trialWord, yesLine, yesWord}
 use Rattle.text.specs.NumeralLaws.{numeral-short}
 use Rattle.text.specs.MegabitsLaws.{megabits-short, figure-short}
 use Rattle.text.specs.PutLaws.{ended-length}
@@ -98,11 +98,40 @@ single-short b cost h l =
 abbrev pub longestDepth : ℕ
 longestDepth = 18
 
-pub depth-short : (depth : ℕ) → depth < 2 ^ 32 → length (depthLine depth) ≤ longestDepth
-depth-short depth h =
+pub depth-short : (depth after : ℕ) → depth < 2 ^ 32 → length (depthFields depth after) ≤ longestDepth
+depth-short depth after h =
     let e₁ = ended depthWord space in
-    let e₂ = ended (megabits (pos depth)) newline in
-    omega (arith, length-append e₁ e₂, ended-length (megabits (pos depth)) newline, megabits-short (pos depth) 6 (omega (arith, h)))
+    let e₂ = ended (megabits (pos depth)) after in
+    omega (arith, length-append e₁ e₂, ended-length (megabits (pos depth)) after, megabits-short (pos depth) 6 (omega (arith, h)))
+
+-- ---- What sets a depth: periods of 32 bits
+
+abbrev pub longestCause : ℕ
+longestCause = 30
+
+pub nothing-short : length nothingFields ≤ longestCause
+nothing-short = omega arith
+
+pub opening-short : (v : ℕ) → v < 2 ^ 32 → length (openingFields v) ≤ longestCause
+opening-short v h =
+    let e₁ = ended openingWord space in
+    let e₂ = ended (numeral v) newline in
+    omega (arith, length-append e₁ e₂, ended-length (numeral v) newline, numeral-short 19 9 v (omega (arith, h)))
+
+pub stretch-short : (u v : ℕ) → u < 2 ^ 32 → v < 2 ^ 32 → length (stretchFields u v) ≤ longestCause
+stretch-short u v h k =
+    let e₁ = ended stretchWord space in
+    let e₂ = ended (numeral u) space in
+    let e₃ = ended (numeral v) newline in
+    omega (
+      arith,
+      length-append (e₁ ++ e₂) e₃,
+      length-append e₁ e₂,
+      ended-length (numeral u) space,
+      ended-length (numeral v) newline,
+      numeral-short 19 9 u (omega (arith, h)),
+      numeral-short 19 9 v (omega (arith, k)),
+    )
 
 -- ---- A check: the excess has 64 bits
 
