@@ -1,11 +1,11 @@
--- How long the line of a single bucket is.
+-- How long the lines of a single bucket and of a depth with what sets it are.
 -- Assumes nothing.
 use Prim.Native.Nat.{ℕ, _≤_, _<_, _^_}
 use native.Mathlib.Omega.{arith}
 use native.Mathlib.Nat.{le-trans}
 use mathlib.Core.Path.{_≡_}
 use mathlib.Core.List.{List}
-use lib.ListN.{length}
+use lib.ListN.{length, length-append}
 use Rattle.terms.specs.Answer.{figures}
 use Rattle.terms.specs.AnswerLaws.{then-found}
 use Rattle.terms.specs.Limits.{traceLimit}
@@ -16,9 +16,10 @@ use Rattle.single.specs.Single.{singleOf}
 use Rattle.single.specs.SingleLaws.{single-cheapest}
 use Rattle.order_file.specs.Ordered.{Ordered, ordered}
 use Rattle.order_file.specs.OrderedLaws.{is-ordered, ordered-range}
-use Rattle.text.specs.Lines.{singleLine}
-use Rattle.text.specs.LineLaws.{longestSingle, single-short}
-use Rattle.services.specs.Services.{singleFor}
+use Rattle.causes.specs.Cause.{SetBy}
+use Rattle.text.specs.Lines.{depthFields, singleLine, space}
+use Rattle.text.specs.LineLaws.{depth-short, longestCause, longestSingle, single-short}
+use Rattle.services.specs.Services.{causeFields, explainedLine, singleFor}
 
 -- The bucket is in its range, and what it costs is small; so its line is short.
 module _ (bs : List ℕ) (x : Priced) (e : singleFor bs ≡ figures x) where
@@ -41,3 +42,12 @@ module _ (bs : List ℕ) (x : Priced) (e : singleFor bs ≡ figures x) where
 
   pub single-line-short : length (singleLine (x .bucket) (x .cost)) ≤ longestSingle
   single-line-short = single-short (x .bucket) (x .cost) bucket-range single-cost
+
+-- ---- A depth with what sets it, in figures of 32 bits
+
+abbrev pub longestExplained : ℕ
+longestExplained = 48
+
+pub explained-short : (depth : ℕ) (by : SetBy) → depth < 2 ^ 32 → length (causeFields by) ≤ longestCause
+    → length (explainedLine (record { depth = depth; cause = by })) ≤ longestExplained
+explained-short depth by h l = omega (arith, length-append (depthFields depth space) (causeFields by), depth-short depth space h)

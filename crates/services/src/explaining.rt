@@ -44,8 +44,9 @@ fn put_explained(text: &mut [u8], at: usize, explained: Explained) -> usize
     requires { ⌜ at + length (explainedLine (explainedSays explained)) ≤ length (now text) ⌝ }
     ensures { λ r. ⌜ Puts (now (text .entry)) at (explainedLine (explainedSays explained)) (now (text .exit)) r ⌝ }
 {
+    let cause = explained.cause;
     let end = put_depth(text, at, explained.depth, b' ');
-    put_cause(text, end, explained.cause)
+    put_cause(text, end, cause)
 }
 
 fn put_cause(text: &mut [u8], at: usize, cause: Cause) -> usize
