@@ -20,8 +20,8 @@ ghost use Rattle.encoding.specs.Fill.{fillSays};
 ghost use Rattle.text.specs.PutLaws.{Puts};
 ghost use Rattle.services.specs.Services.{causeFields, explainIn, explainedLine};
 
-// The bytes of the longest line of a depth with its cause, of any figures of their types.
-pub const LONGEST_EXPLAINED: usize = 48;
+// The bytes of the longest line of a depth with its cause.
+pub const LONGEST_EXPLAINED: usize = 31;
 
 // Writes the line of the smallest depth that carries an order's trace at a rate, with its cause, into the
 // front of the text and answers its length; or a refusal, and the text is as it was: 1 to 5 as reading the

@@ -6,14 +6,14 @@ use lib.ListN.{length}
 use Rattle.depth.specs.Depth.{depthSays}
 use Rattle.encoding.specs.FillLaws.{refused-fills, found-fills}
 use Rattle.text.specs.FittedLaws.{zeros, ready-count, ready-inside, ready-fills}
-use Rattle.text.specs.Lines.{depthLine, newline}
+use Rattle.text.specs.Lines.{depthLine}
 use Rattle.text.specs.LineLaws.{depth-short, longestDepth}
 use borrow.Author.Needs.{needs}
 use Rattle.services.proofs.lines.fill_depth.Statement.{statement}
 use Rattle.services.proofs.lines.fill_depth.Tie as tie
 
 room : (y : tie.After-known-told) → length (depthLine (y .before .answer .given .0 .0 .0)) ≤ length (zeros longestDepth)
-room y = omega (arith, depth-short (y .before .answer .given .0 .0 .0) newline (omega (arith, y .known-told .given)))
+room y = omega (arith, depth-short (y .before .answer .given .0 .0 .0) (omega (arith, y .known-told .given)))
 
 enum-known-answer : tie.Need-enum-known-answer
 enum-known-answer c = search needs
