@@ -38,7 +38,7 @@ slice-aggregate-put-explained : tie.Need-slice-aggregate-put-explained
 slice-aggregate-put-explained c = search needs
 
 put-explained-requires : tie.Need-put-explained-requires
-put-explained-requires c κs = omega (arith, room (c .before))
+put-explained-requires c κs = omega (arith, room (c .before .before))
 
 array-share-prefix-ready : tie.Need-array-share-prefix-ready
 array-share-prefix-ready c =
