@@ -95,7 +95,7 @@ module _ {r C : ℕ} {ds : List ℕ} {v first demands tokens u : ℕ} (k : Start
   miss : (new : ℕ) → demands' ≤ tokens' → new ≡ first → Started r C ds v new demands' tokens' j
   miss new h e =
       let f : search-u ≡ firstFrom (λ m. short r C ds m v) (v - u) (j + 1 + 1) =
-          from-failed (λ m. short r C ds m v) (j + 1) (v - j) (v - u) (omega (arith, k .inside)) (short-u false (sums-enough r C demands' tokens' _ sums' gained h)) in
+      from-failed (λ m. short r C ds m v) (j + 1) (v - j) (v - u) (omega (arith, k .inside)) (short-u false (sums-enough r C demands' tokens' _ sums' gained h)) in
       let g : u + 1 ≡ j + 1 + 1 = omega arith in
       next new (e ∙ k .so-far ∙ ap (λ (b : ℕ). figureOr (firstFrom (λ m. short r C ds m v) (v - u) b) v) g ∙ sym (ap (λ (a : Answer ℕ). figureOr a v) f))
 

@@ -16,8 +16,7 @@ number figure x = figure (causeNumbers (x .cause))
 returns : tie.Need-returns
 returns c =
     let w = c .before .before in
-    let e = sym (w .before .before .explain-for .ensures) ∙ ap explainSays (w .why .given .1) in
-    (
+    let e = sym (w .before .before .explain-for .ensures) ∙ ap explainSays (w .why .given .1) in (
       code-refused _ (λ x. x .depth) _ _ e (c .coded-refusal .ensures),
       (number-kept _ (number (λ n. n .cause)) _ _ e, (number-kept _ (number (λ n. n .first)) _ _ e, number-kept _ (number (λ n. n .last)) _ _ e)),
     )
@@ -27,8 +26,7 @@ returns-2 c =
     let f = c .before in
     let x = f .before .before in
     let e = sym (x .before .before .explain-for .ensures) ∙ ap explainSays (x .x .given .1) in
-    let n = f .numbers-of .ensures in
-    (
+    let n = f .numbers-of .ensures in (
       code-found _ (λ x. x .depth) _ e,
       (
         ap (λ (m : CauseNumbers). m .cause) n ∙ number-found _ (number (λ m. m .cause)) _ _ e,
