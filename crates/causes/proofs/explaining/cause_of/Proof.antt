@@ -5,6 +5,7 @@ use mathlib.Core.Path.{_≡_, sym, ap, ap₂, _∙_}
 use borrow.Author.Needs.{needs}
 use lib.ListN.{length}
 use Rattle.terms.specs.Answer.{Answer, figureOr}
+use Rattle.terms.specs.Limits.{traceLimit}
 use Rattle.terms.specs.RangeRules.{FreshRange}
 use Rattle.bucket.specs.Laws.{start-le}
 use Rattle.bucket.specs.Step.{startOf}
@@ -51,9 +52,6 @@ first-found c =
     c .stretch-start .ensures ∙ ap (λ (v : ℕ). figureOr (stretchStart (s .args .rate .0) (s .args .depth .0 - 1) (s .args .trace .now) v) v) (last-found e)
     ∙ ap (λ (a : Answer ℕ). figureOr a (k .last)) (k .is-first)
 
-sub-opening-end : tie.Need-sub-opening-end
-sub-opening-end c = search needs
-
 starting-tokens-requires : tie.Need-starting-tokens-requires
 starting-tokens-requires c κs = fresh (c .before)
 
@@ -64,8 +62,9 @@ opening-end-requires c κs =
     let k = ranges s in
     (k .periods, (k .rate .rates, omega (arith, c .starting-tokens .ensures, k .depths, start-le (s .args .tariff .factor .p) (s .args .tariff .factor .q) (s .args .depth .0 - 1) (k .rate .tariff .factor .part))))
 
-cast-t12 : tie.Need-cast-t12
-cast-t12 c =
+-- the periods are of the trace, so they fit
+opening-fits : (c : tie.Then2) → c .before .opening-end .result ≤ traceLimit
+opening-fits c =
     let a = c .before .before .before .before in
     let s = a .before .before .before in
     omega (arith, opened _ _ _ (s .pre) (above a) _ (opening-found (c .before)) (c .if2 .taken) .inside, ranges s .periods .few)
@@ -87,17 +86,15 @@ stretch-start-requires c κs =
     let k = ranges (a .before .before .before) in
     let h = the-stretch (c .before) .is-short in
     let e = last-found c in
-    (k .periods, (fresh a .bucket, (record { some = omega (arith, e, h .late, h .ordered); few = omega (arith, e, h .inside, k .periods .few) }, omega (arith, e, h .inside))))
+    (k .periods, (fresh a .bucket, (omega (arith, e, h .late, h .ordered), omega (arith, e, h .inside))))
 
-cast-t10 : tie.Need-cast-t10
-cast-t10 c =
+first-fits : (c : tie.After-stretch-start) → c .stretch-start .result ≤ traceLimit
+first-fits c =
     let k = the-stretch (c .before .before) .is-short in
     omega (arith, first-found c, k .ordered, k .inside, ranges (c .before .before .before .before .before .before .before .before .before) .periods .few)
 
-cast-t14 : tie.Need-cast-t14
-cast-t14 c =
-    let k = the-stretch (c .before .before) .is-short in
-    omega (arith, last-found (c .before), k .inside, ranges (c .before .before .before .before .before .before .before .before .before) .periods .few)
+last-fits : (c : tie.After-stretch-end) → c .stretch-end .result ≤ traceLimit
+last-fits c = omega (arith, last-found c, the-stretch (c .before) .is-short .inside, ranges (c .before .before .before .before .before .before .before .before) .periods .few)
 
 returns-3 : tie.Need-returns-3
 returns-3 c = ap₂ stretch (first-found c) (last-found (c .before)) ∙ sym (the-stretch (c .before .before) .named)
@@ -107,13 +104,13 @@ cause-of-spec =
     tie.close
     (tie.spec
     returns
-    sub-opening-end
+    (λ c. search needs)
     starting-tokens-requires
     opening-end-requires
-    cast-t12
+    (λ c. omega (arith, opening-fits c))
     returns-2
     stretch-end-requires
     stretch-start-requires
-    cast-t10
-    cast-t14
+    (λ c. omega (arith, first-fits c))
+    (λ c. omega (arith, last-fits (c .before)))
     returns-3)

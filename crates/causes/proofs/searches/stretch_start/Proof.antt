@@ -111,7 +111,7 @@ abbrev μ-loop : tie.MeasureT-loop
 μ-loop trace bucket last first₀ demands₀ tokens₀ u₀ first demands tokens u = u
 
 loop-holds : tie.Need-loop-holds Inv-loop μ-loop
-loop-holds c = start _ _ _ _ (c .pre .1 .1 .0 .some)
+loop-holds c = start _ _ _ _ (c .pre .1 .1 .0)
 
 sub-demands : tie.Need-sub-demands Inv-loop μ-loop
 sub-demands c = search needs
@@ -119,7 +119,7 @@ sub-demands c = search needs
 mul-demands : tie.Need-mul-demands Inv-loop μ-loop
 mul-demands c =
     let s = c .before .before in
-    omega (arith, c .before .loop .inv .inside, s .pre .1 .1 .0 .few)
+    omega (arith, c .before .loop .inv .inside, s .pre .1 .1 .1, s .pre .0 .few)
 
 shared-slice-read-demands : tie.Need-shared-slice-read-demands Inv-loop μ-loop
 shared-slice-read-demands c =
