@@ -363,3 +363,16 @@ fn the_program_prints_alike() {
     tally.expect(&[Kind::Nothing, Kind::Opening, Kind::Stretch, Kind::Refused], 50);
     refused.expect(&REFUSALS, 3);
 }
+
+/// The longest order, with nothing behind it, a byte, and more than the program has room for.
+#[test]
+fn the_program_takes_the_longest_order() {
+    for_seeds(7_710_000, 20, |seed| {
+        let demands: Vec<u16> = (0..512).map(|_| seed.between(0, 900) as u16).collect();
+        let mut file = file_of(&(printed_case().0, demands));
+        for (more, refused) in [(0, false), (1, true), (5_000, true)] {
+            file.resize(file.len() + more, 0);
+            assert_eq!(compare_line(&file, seed.between(400, 500)) == Refused(4), refused);
+        }
+    });
+}

@@ -28,8 +28,8 @@ pub fn explain(trace: &[u16], rate: u32, tariff: &Tariff) -> Answer<Explained> {
     Ok(Explained { depth, cause: cause_of(depth, trace, rate, tariff) })
 }
 
-/// Of all openings and stretches that a depth one smaller falls short of, an opening before a stretch, then the one with
-/// the least v, then with the least u.
+/// Of all openings and stretches that a depth one smaller falls short of, an opening before a stretch, then the least
+/// v, then the least u.
 fn cause_of(depth: u32, trace: &[u16], rate: u32, tariff: &Tariff) -> Cause {
     let Some(smaller) = depth.checked_sub(1) else {
         return Cause::Nothing;

@@ -113,8 +113,8 @@ fn lists_at_the_ends() -> Vec<Vec<u16>> {
     lists.flat_map(|list| [turned(&list), list]).collect()
 }
 
-/// Runs the check for orders of such lists with the factor and the caps at the ends of their ranges, and for rates about
-/// the cap.
+/// Runs the check for orders of such lists, with factor and caps at the ends of their ranges, and for rates about the
+/// cap.
 pub fn for_the_ends(check: impl Fn(&[u8], u32)) {
     let factors = [(0, 1), (1, 1), (0, 1_000), (1, 1_000), (999, 1_000), (1_000, 1_000)];
     let capped = |(p, q)| {
