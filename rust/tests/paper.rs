@@ -745,27 +745,25 @@ fn figures_of_causes() {
     let full = |trace: &[u16]| explain(trace, 5, &Tariff { p: 1, q: 1, ..TARIFF });
     assert_eq!([full(&[0, 5, 7]), full(&[0, 5, 5, 7, 7])], [stretch(2, 2, 3), stretch(4, 2, 5)]);
     assert_eq!([full(&[1, 7, 7, 1, 9]), full(&[5, 5, 7])], [stretch(4, 2, 3), opening(2, 3)]);
+    assert_eq!([full(&[7, 5, 5]), full(&[7, 3, 7])], [opening(2, 1); 2], "equal needs");
     let empty = |trace: &[u16]| explain(trace, 5, &Tariff { p: 0, q: 1, ..TARIFF });
     assert_eq!([empty(&[2, 8]), empty(&[8, 2])], [stretch(3, 2, 2), Err(7)]);
 }
 
-/// What a cause says, against the bucket of a depth one smaller: it does not carry the opening, nor the stretch even if
-/// it is full where that begins. Full before period 2, it carries all that comes before the stretch's last period.
+/// What a cause says, against the bucket of a depth one smaller: fresh, it first discards in the last period of the
+/// opening or the stretch; and it does not carry the stretch even if it is full where that begins.
 fn holds_of_the_bucket(trace: &[u16], rate: u32, tariff: &Tariff) {
     let explained = explain(trace, rate, tariff);
     assert_eq!(explained.map(|explained| explained.depth), depth_at(trace, rate, tariff));
     let Ok(Explained { depth, cause }) = explained else { return };
     let smaller = pair(rate, depth.saturating_sub(1));
+    let carried = |periods: usize| periods == 0 || carries(smaller, tariff.p, tariff.q, &trace[..periods]);
     match cause {
         Cause::Nothing => assert_eq!(depth, 0),
-        Cause::Opening { v } => {
-            assert!(depth > 0 && tariff.p > 0 && v >= 1);
-            assert!(!carries(smaller, tariff.p, tariff.q, &trace[..v]));
-        }
+        Cause::Opening { v } => assert!(depth > 0 && tariff.p > 0 && carried(v - 1) && !carried(v)),
         Cause::Stretch { u, v } => {
-            assert!(depth > 0 && u >= 2);
+            assert!(depth > 0 && u >= 2 && carried(v - 1) && !carried(v));
             assert!(!carries(smaller, 1, 1, &trace[u - 1..v]));
-            assert!(v == 2 || carries(smaller, 1, 1, &trace[1..v - 1]));
         }
     }
 }
