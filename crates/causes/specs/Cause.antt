@@ -16,6 +16,7 @@ use Rattle.bucket.specs.Step.{startOf}
 use Rattle.depth.specs.Depth.{depthOf, firstFrom}
 use Rattle.causes.specs.declared.explaining.Cause.{Cause}
 use Rattle.causes.specs.declared.explaining.Cause.the-variants.{Nothing, Opening, Stretch}
+use Rattle.causes.specs.declared.explaining.Explained.{Explained}
 use Rattle.causes.specs.declared.explaining.ExplainAnswer.{ExplainAnswer}
 use Rattle.causes.specs.declared.explaining.ExplainAnswer.the-variants.{Found, Refused}
 
@@ -83,12 +84,15 @@ explained t r ds B = record { depth = B; cause = causeOf (t .factor .p) (t .fact
 abbrev pub explainOf : Tariff → ℕ → List ℕ → Answer Explanation
 explainOf t r ds = onFigures (explained t r ds) (depthOf t r ds)
 
--- Each case of a cause and of the answer in document 02's values and numbers.
+-- Each case of a cause, and of the answer, in document 02's values and numbers.
 abbrev pub causeSays : Cause → SetBy
 causeSays Nothing = nothing
 causeSays (Opening x) = opening (x .periods)
 causeSays (Stretch x) = stretch (x .first) (x .last)
 
+abbrev pub explainedSays : Explained → Explanation
+explainedSays x = record { depth = x .depth .0; cause = causeSays (x .cause) }
+
 abbrev pub explainSays : ExplainAnswer → Answer Explanation
-explainSays (Found x) = figures (record { depth = x .depth .0; cause = causeSays (x .cause) })
+explainSays (Found x) = figures (explainedSays x)
 explainSays (Refused x) = refused (numberOf x)

@@ -7,21 +7,28 @@ use native.Mathlib.Nat.{le-trans}
 use mathlib.Core.Path.{_≡_, refl, sym, ap, subst, _∙_}
 use mathlib.Core.Bool.{Bool, true, false, cond}
 use mathlib.Core.List.{List}
-use borrow.Author.Tests.{eqb-true, eqb-false, ltb-true, ltb-false}
+use borrow.Author.Tests.{eqb-true, eqb-false, eq-eqb, ltb-true, ltb-false, ne-eqb}
 use lib.Dec.{eqb, ltb}
 use lib.ListN.{length, take, drop, length-drop, take-append-drop}
 use lib.Seq.{drop-at, length-take-le, slice, take-add}
 use Rattle.terms.specs.declared.Tariff.{Tariff}
-use Rattle.terms.specs.Answer.{Answer, figures, refused, figureOr, onFigures, andThen}
+use Rattle.terms.specs.Answer.{Answer, figures, refused, figureOr, weigh}
+use Rattle.terms.specs.AnswerLaws.{weigh-figures}
 use Rattle.terms.specs.Bools.{not-true-false, true-false}
+use Rattle.terms.specs.Limits.{depthLimit}
+use Rattle.terms.specs.RangeLaws.{periods-range}
+use Rattle.terms.specs.RangeRules.{PeriodsRange}
+use Rattle.terms.specs.Ranges.{periodsOk}
 use Rattle.bucket.specs.Step.{startOf}
 use Rattle.bucket.specs.Trace.{carries, carriesFrom}
-use Rattle.depth.specs.Depth.{depthOf}
+use Rattle.depth.specs.Depth.{depthOf, rateOk, tariffDepth}
+use Rattle.depth.specs.DepthLaws.{depth-found}
 use Rattle.depth.specs.Need.{needBefore}
 use Rattle.depth.specs.NeedLaws.{Meets, carried-meets, depth-meets-least}
 use Rattle.depth.specs.SearchLaws.{FirstFrom, IsFirstFrom, NoneFrom, from-is}
+use Rattle.depth.specs.WalkedLaws.{RateRange, rate-range}
 use Rattle.causes.specs.Cause.{SetBy, nothing, opening, stretch, fromTo, needOf, short, isFound, openingEnd, stretchStart, stretchEnd, shortOpening, shortStretch, causeOf}
-use Rattle.causes.specs.PeriodNeedLaws.{front-need, fronts-met}
+use Rattle.causes.specs.PeriodNeedLaws.{all-needed, fronts-met}
 
 -- ---- What is true of a cause, y being the starting tokens of depth C
 
@@ -88,6 +95,25 @@ module _ (r : ℕ) (ds : List ℕ) where
           let k = stretches (suc n + m) (omega arith) inside (n + 2) (omega arith) (omega arith) in
           omega (arith, k, ap (λ (f : ℕ). needOf r (slice f (suc n + m) ds)) e, ap (needOf r) (part (suc n) m (omega arith))))
 
+-- Nothing is said at depth 0.
+pub nothing-at-0 : (p q r : ℕ) (ds : List ℕ) (B : ℕ) → B ≡ 0 → causeOf p q r ds B ≡ nothing
+unfolding causeOf
+nothing-at-0 p q r ds B e = rw (eq-eqb B 0 e)
+
+-- ---- The ranges of what a depth is answered for
+
+pub record Asked (t : Tariff) (r : ℕ) (ds : List ℕ) (B : ℕ) : Type 0 where
+  pub periods : PeriodsRange (length ds)
+  pub rate : RateRange t r
+  pub depths : B ≤ depthLimit
+
+pub asked : (t : Tariff) (r : ℕ) (ds : List ℕ) {B : ℕ} → depthOf t r ds ≡ figures B → Asked t r ds B
+unfolding depthOf
+asked t r ds e =
+    let n = weigh-figures (periodsOk (length ds)) 3 (weigh (rateOk t r) 5 (tariffDepth t r ds)) e in
+    let k = rate-range t r (weigh-figures (rateOk t r) 5 (tariffDepth t r ds) (n .1) .0) in
+    record { periods = periods-range _ (n .0); rate = k; depths = le-trans (depth-found t r ds e .within) (k .tariff .depth-caps) }
+
 -- ---- What the searches find for a depth above 0
 
 module _ (t : Tariff) (r : ℕ) (ds : List ℕ) where
@@ -122,3 +148,106 @@ module _ (t : Tariff) (r : ℕ) (ds : List ℕ) where
         opening-search : (x : Answer ℕ) → openingEnd r (y C) ds ≡ x → IsFirstFrom (λ v. short r (y C) ds 1 v) (length ds) 1 x → Found C
         opening-search (figures v) o k = opens v o
         opening-search (refused n) o k = end-search n o (none-opens r ds (y C) (k .1)) (stretchEnd r C ds) refl (from-is (λ v. isFound (stretchStart r C ds v)) (length ds - 1) 2)
+
+    -- The cause is what the searches find.
+    above : eqb B 0 ≡ false
+    above = ne-eqb B 0 (λ z. omega arith)
+
+    cause-opens : (v : ℕ) → openingEnd r (y C) ds ≡ figures v → causeOf (t .factor .p) (t .factor .q) r ds B ≡ opening v
+    unfolding causeOf
+    cause-opens v o = rw (above, o)
+
+    cause-stretches : (u v n : ℕ) → openingEnd r (y C) ds ≡ refused n → stretchEnd r C ds ≡ figures v → stretchStart r C ds v ≡ figures u
+        → causeOf (t .factor .p) (t .factor .q) r ds B ≡ stretch u v
+    unfolding causeOf
+    cause-stretches u v n o f g = rw (above, o, f, g)
+
+    opening-is : (v : ℕ) → openingEnd r (y C) ds ≡ figures v → OpeningShort r (y C) ds v
+    opening-is v o =
+        let k : FirstFrom (λ w. short r (y C) ds 1 w) (length ds) 1 v = subst (IsFirstFrom (λ w. short r (y C) ds 1 w) (length ds) 1) o (from-is _ (length ds) 1) in
+        record {
+          some = k .from;
+          inside = omega (arith, k .within);
+          short-of = ltb-true _ _ (k .passes);
+          least = λ w i l. met r ds (y C) 1 w (k .smaller w i l);
+        }
+
+    stretch-is : (u v n : ℕ) → openingEnd r (y C) ds ≡ refused n → stretchEnd r C ds ≡ figures v → stretchStart r C ds v ≡ figures u → StretchShort r (y C) C ds u v
+    stretch-is u v n o f g =
+        let none = subst (IsFirstFrom (λ w. short r (y C) ds 1 w) (length ds) 1) o (from-is _ (length ds) 1) in
+        let last : FirstFrom (λ w. isFound (stretchStart r C ds w)) (length ds - 1) 2 v = subst (IsFirstFrom (λ w. isFound (stretchStart r C ds w)) (length ds - 1) 2) f (from-is _ (length ds - 1) 2) in
+        let first : FirstFrom (λ w. short r C ds w v) (v - 1) 2 u = subst (IsFirstFrom (λ w. short r C ds w v) (v - 1) 2) g (from-is _ (v - 1) 2) in
+        record {
+          openings = none-opens r ds (y C) (none .1);
+          late = first .from;
+          ordered = omega (arith, first .from, first .within);
+          inside = omega (arith, last .from, last .within);
+          short-of = ltb-true _ _ (first .passes);
+          least-last = λ w i l. none-stretches r ds C w (last .smaller w i l);
+          least-first = λ w i l. met r ds C w v (first .smaller w i l);
+        }
+
+    -- What the code finds: the number of the opening's periods, and where that is 0 the stretch.
+    pub record Opened (n : ℕ) : Type 0 where
+      pub inside : n ≤ length ds
+      pub named : causeOf (t .factor .p) (t .factor .q) r ds B ≡ opening n
+
+    pub opened : (n : ℕ) → n ≡ figureOr (openingEnd r (y C) ds) 0 → (n ≡ 0 → ⊥) → Opened n
+    opened n e some = go found
+      where
+        go : Found C → Opened n
+        go (opens v o) =
+            let f : n ≡ v = e ∙ ap (λ (a : Answer ℕ). figureOr a 0) o in
+            subst Opened (sym f) (record { inside = opening-is v o .inside; named = cause-opens v o })
+        go (stretches u v m o f g) = absurd (some (e ∙ ap (λ (a : Answer ℕ). figureOr a 0) o))
+
+    pub record Stretched : Type 0 where
+      pub first : ℕ
+      pub last : ℕ
+      pub is-last : stretchEnd r C ds ≡ figures last
+      pub is-first : stretchStart r C ds last ≡ figures first
+      pub is-short : StretchShort r (y C) C ds first last
+      pub named : causeOf (t .factor .p) (t .factor .q) r ds B ≡ stretch first last
+
+    pub stretched : figureOr (openingEnd r (y C) ds) 0 ≡ 0 → Stretched
+    stretched e = go found
+      where
+        go : Found C → Stretched
+        go (opens v o) = absurd (omega (arith, opening-is v o .some, sym (ap (λ (a : Answer ℕ). figureOr a 0) o) ∙ e))
+        go (stretches u v n o f g) = record { first = u; last = v; is-last = f; is-first = g; is-short = stretch-is u v n o f g; named = cause-stretches u v n o f g }
+
+-- ---- The theorems
+
+module _ (t : Tariff) (r : ℕ) (ds : List ℕ) {B : ℕ} (e : depthOf t r ds ≡ figures B) where
+  abbrev cause : SetBy
+  cause = causeOf (t .factor .p) (t .factor .q) r ds B
+
+  -- What the cause says is true of the trace.
+  pub cause-true : IsCause (t .factor .p) (t .factor .q) r ds B cause
+  cause-true = go (eqb B 0) refl
+    where
+      above : (h : 1 ≤ B) → Found t r ds (B - 1) → IsCause (t .factor .p) (t .factor .q) r ds B cause
+      above h (opens v o) = subst (IsCause (t .factor .p) (t .factor .q) r ds B) (sym (cause-opens t r ds e h v o)) (opening-is t r ds e h v o)
+      above h (stretches u v n o f g) = subst (IsCause (t .factor .p) (t .factor .q) r ds B) (sym (cause-stretches t r ds e h u v n o f g)) (stretch-is t r ds e h u v n o f g)
+
+      go : (b : Bool) → eqb B 0 ≡ b → IsCause (t .factor .p) (t .factor .q) r ds B cause
+      go true z = subst (IsCause (t .factor .p) (t .factor .q) r ds B) (sym (nothing-at-0 (t .factor .p) (t .factor .q) r ds B (eqb-true B 0 z))) (eqb-true B 0 z)
+      go false z = let h : 1 ≤ B = omega (arith, eqb-false B 0 z) in above h (found t r ds e h)
+
+  -- Nothing is said at depth 0 only: for a depth above 0 a cause is always found.
+  pub cause-found : cause ≡ nothing → B ≡ 0
+  cause-found h = subst (IsCause (t .factor .p) (t .factor .q) r ds B) h cause-true
+
+-- ---- In the bucket
+
+-- Tokens that fall short of the need of some periods do not carry them, in a bucket of any depth.
+pub short-discards : (r B y : ℕ) (es : List ℕ) → y < needOf r es → carriesFrom r B y es ≡ false
+short-discards r B y es h = not-true-false _ (λ e. omega (arith, carried-meets r B y es e .first, all-needed r es))
+
+-- So a depth one smaller, fresh, does not carry the opening that is named …
+pub opening-discards : (p q r : ℕ) (ds : List ℕ) (B v : ℕ) → IsCause p q r ds B (opening v) → carries p q r (B - 1) (fromTo 1 v ds) ≡ false
+opening-discards p q r ds B v k = short-discards r (B - 1) _ _ (k .short-of)
+
+-- … and however full it is, it does not carry the stretch.
+pub stretch-discards : (p q r : ℕ) (ds : List ℕ) (B u v : ℕ) → IsCause p q r ds B (stretch u v) → (y : ℕ) → y ≤ B - 1 → carriesFrom r (B - 1) y (fromTo u v ds) ≡ false
+stretch-discards p q r ds B u v k y l = short-discards r (B - 1) y _ (omega (arith, k .short-of))

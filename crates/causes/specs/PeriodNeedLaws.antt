@@ -1,6 +1,6 @@
--- The need of periods against the needs of the bucket and of the walk. What is needed before a trace is the greatest
--- need of its first periods (`needBefore`, by which a bucket carries it), and a walk's ending is the greatest need of
--- its last ones: none is above it, and one is equal to it.
+-- The need of periods against the needs of the bucket and of the walk. What must be held before a trace (`needBefore`,
+-- by which a bucket carries it) is never below the trace's need, and it is the need of some of its first periods. A
+-- walk's ending is never below the need of its last periods, however many, and it is that of some of them.
 -- Assumes nothing.
 use Prim.Native.Nat.{ℕ, zero, suc, _+_, _-_, _*_, _≤_, _<_}
 use native.Mathlib.Omega.{arith}
@@ -46,11 +46,10 @@ none-needed r = omega (arith, mul-zero r)
 
 -- ---- First periods
 
-pub front-need : (r n : ℕ) (ds : List ℕ) → needOf r (take n ds) ≤ needBefore r ds
+pub all-needed : (r : ℕ) (ds : List ℕ) → needOf r ds ≤ needBefore r ds
 unfolding needOf needBefore total
-front-need r zero ds = omega arith
-front-need r (suc n) [] = omega arith
-front-need r (suc n) (d ∷ ds) = omega (arith, front-need r n ds, mul-suc r (length (take n ds)))
+all-needed r [] = omega arith
+all-needed r (d ∷ ds) = omega (arith, all-needed r ds, mul-suc r (length ds))
 
 -- Some of them, all within the trace.
 record FrontNeeds (r : ℕ) (ds : List ℕ) (b : ℕ) : Type 0 where

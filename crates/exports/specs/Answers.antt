@@ -17,8 +17,10 @@ use Rattle.order_file.specs.Order.{writeOrder}
 use Rattle.plan_file.specs.Plan.{Recorded, planFile, readPlan}
 use Rattle.planning.specs.Planning.{planned}
 use Rattle.booking.specs.Booking.{planFigures}
+use Rattle.causes.specs.Cause.{SetBy, nothing, opening, stretch}
 use Rattle.checking.specs.Check.{Verdict, yes, no}
 use Rattle.typed_figures.specs.Figures.{tariffFigures, tariffOf}
+use Rattle.exports.specs.declared.explaining.CauseNumbers.{CauseNumbers}
 use Rattle.exports.specs.Lists.{RecordLists, roomOf}
 
 -- ---- An answer as one number
@@ -57,6 +59,14 @@ planFileIn room bs = andThen (planned traceLimit traceLimit bs) (λ x. planFile 
 -- than buckets.
 abbrev pub readIn : List ℕ → RecordLists → Answer Recorded
 readIn bs l = readPlan (roomOf (l .runs) (l .rates) (l .depths)) bs
+
+-- ---- What sets a depth
+
+-- As numbers (02, job 3): 0 for nothing, 1 for an opening, 2 for a stretch; then the first and the last of its periods.
+abbrev pub causeNumbers : SetBy → CauseNumbers
+causeNumbers nothing = record { cause = 0; first = 0; last = 0 }
+causeNumbers (opening v) = record { cause = 1; first = 1; last = v }
+causeNumbers (stretch u v) = record { cause = 2; first = u; last = v }
 
 -- ---- Checks
 

@@ -4,6 +4,7 @@
 mod answers;
 mod buckets;
 mod checks;
+mod explaining;
 mod figure_lists;
 mod meters;
 mod orders;
@@ -16,6 +17,7 @@ pub use buckets::metqoraz_depth_from_end;
 pub use buckets::metqoraz_single;
 pub use buckets::metqoraz_trial;
 pub use checks::metqoraz_check;
+pub use explaining::metqoraz_explain;
 pub use meters::metqoraz_meter;
 pub use orders::metqoraz_order;
 pub use plans::metqoraz_book;

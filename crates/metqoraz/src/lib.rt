@@ -33,7 +33,13 @@ pub use meter::meter_run;
 pub use meter::offer;
 pub use meter::open_meter;
 
-// The smallest depth at a rate, the cheapest bucket, and the cheapest series of buckets.
+// The smallest depth at a rate and what sets it, the cheapest bucket, and the cheapest series of buckets.
+pub use causes::Cause;
+pub use causes::ExplainAnswer;
+pub use causes::Explained;
+pub use causes::Opening;
+pub use causes::Stretch;
+pub use causes::explain;
 pub use depth::DepthAnswer;
 pub use depth::depth_at;
 pub use depth::depth_from_end;
@@ -75,10 +81,12 @@ pub use checking::check_line;
 
 // Texts: the services from an order file, a figure in megabits, a refusal; and room for the longest.
 pub use services::LONGEST_DEPTH;
+pub use services::LONGEST_EXPLAINED;
 pub use services::LONGEST_SINGLE;
 pub use services::LONGEST_TRIAL;
 pub use services::depth_from_end_line;
 pub use services::depth_line;
+pub use services::explain_line;
 pub use services::single_line;
 pub use services::trial_line;
 pub use sheets::LONGEST_SHEET;
@@ -89,8 +97,8 @@ pub use text::megabits;
 pub use text::refusal_line;
 
 // Typed text: an order's figures, the word around a fault, and one number.
-pub use order_text::Cause;
 pub use order_text::Fault;
+pub use order_text::Reason;
 pub use order_text::TextAnswer;
 pub use order_text::order_of_text;
 pub use order_text::refusal_of;
@@ -104,6 +112,7 @@ pub use exports::metqoraz_book;
 pub use exports::metqoraz_check;
 pub use exports::metqoraz_depth;
 pub use exports::metqoraz_depth_from_end;
+pub use exports::metqoraz_explain;
 pub use exports::metqoraz_meter;
 pub use exports::metqoraz_order;
 pub use exports::metqoraz_plan;

@@ -1,7 +1,7 @@
 // What is wrong with a text, in one line on standard error: where, about which figure, its word where it
 // has one, why, and the refusal's number.
 use libc::STDERR_FILENO;
-use order_text::Cause;
+use order_text::Reason;
 use order_text::Fault;
 use order_text::refusal_of;
 use order_text::word_around;
@@ -17,16 +17,16 @@ pub fn say(fault: Fault, text: &[u8]) {
     name(fault.figure);
     words(b": ");
     let word = word_around(text, fault.place);
-    let cause = fault.cause;
-    match cause {
-        Cause::Byte => of_word(word, b" is not a decimal number"),
-        Cause::Above => above(word, fault.figure),
-        Cause::Factor => of_word(word, b" is 0, or less than p"),
-        Cause::Many => words(b"more than 512 demands"),
-        Cause::Few => words(b"the text ends where it is due"),
+    let reason = fault.reason;
+    match reason {
+        Reason::Byte => of_word(word, b" is not a decimal number"),
+        Reason::Above => above(word, fault.figure),
+        Reason::Factor => of_word(word, b" is 0, or less than p"),
+        Reason::Many => words(b"more than 512 demands"),
+        Reason::Few => words(b"the text ends where it is due"),
     }
     words(b" (refused ");
-    number(refusal_number(refusal_of(cause)) as u64);
+    number(refusal_number(refusal_of(reason)) as u64);
     words(b")\n");
 }
 

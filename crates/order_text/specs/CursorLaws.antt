@@ -14,8 +14,8 @@ use lib.Seq.{length-take-le, take-suc-set, getD-take}
 use Rattle.terms.specs.Bools.{true-false}
 use Rattle.typed_figures.specs.Decimal.{pushed}
 use Rattle.typed_figures.specs.Figures.{limitOf, figuresLimit, factorStands}
-use Rattle.order_text.specs.declared.faults.Cause.{Cause}
-use Rattle.order_text.specs.declared.faults.Cause.the-variants.{Above, Many, Factor}
+use Rattle.order_text.specs.declared.faults.Reason.{Reason}
+use Rattle.order_text.specs.declared.faults.Reason.the-variants.{Above, Many, Factor}
 use Rattle.order_text.specs.declared.faults.Fault.{Fault}
 use Rattle.order_text.specs.declared.scan.Cursor.{Cursor}
 use Rattle.order_text.specs.declared.scan.Step.{Step}
@@ -30,10 +30,10 @@ count-is c xs f l = length-take-le (c .count) xs (omega (arith, f .few, l))
 
 -- ---- Steps that store nothing
 
-pub fault-steps : (cause : Cause) (c : Cursor) → Fits c → Steps (λ s. faulty (faultAt cause s)) c (Faulty (record { line = c .line; place = c .place; figure = c .count; cause = cause }))
-fault-steps cause c f =
+pub fault-steps : (reason : Reason) (c : Cursor) → Fits c → Steps (λ s. faulty (faultAt reason s)) c (Faulty (record { line = c .line; place = c .place; figure = c .count; reason = reason }))
+fault-steps reason c f =
     record {
-      says = λ xs l. ap (λ (n : ℕ). faulty (record { line = c .line; place = c .place; figure = n; cause = cause })) (sym (count-is c xs f l));
+      says = λ xs l. ap (λ (n : ℕ). faulty (record { line = c .line; place = c .place; figure = n; reason = reason })) (sym (count-is c xs f l));
       fits = tt;
     }
 

@@ -22,7 +22,7 @@ use Rattle.order_file.specs.OrderRules.{write-room, write-figures}
 use Rattle.typed_figures.specs.Figures.{tariffFigures, limitOf, figuresLimit, factorStands, tariffOf, demandsOf}
 use Rattle.typed_figures.specs.DecimalLaws.{push-limit}
 use Rattle.typed_figures.specs.LimitLaws.{limit-demand}
-use Rattle.order_text.specs.declared.faults.Cause.the-variants.{Few}
+use Rattle.order_text.specs.declared.faults.Reason.the-variants.{Few}
 use Rattle.order_text.specs.Text.{read, faulty, thenRead, Scan, markLength, unmarked, started, faultAt, closed, afterByte, scanned, wholeScan, enough, figuresOf, writeFigures}
 use Rattle.order_text.specs.ScanLaws.{read-faulty, same-read, then-read, Closes, idle, ended, Goes, inside, past, closes, goes}
 

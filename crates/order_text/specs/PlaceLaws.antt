@@ -11,7 +11,7 @@ use lib.Dec.{leb, eqb}
 use lib.ListN.{length, getD, length-drop}
 use Rattle.typed_figures.specs.Decimal.{isDigit, pushed}
 use Rattle.typed_figures.specs.Figures.{tariffFigures, limitOf, figuresLimit, factorStands}
-use Rattle.order_text.specs.declared.faults.Cause.the-variants.{Byte, Factor, Many, Few}
+use Rattle.order_text.specs.declared.faults.Reason.the-variants.{Byte, Factor, Many, Few}
 use Rattle.order_text.specs.declared.faults.Fault.{Fault}
 use Rattle.order_text.specs.Text.{Reading, read, faulty, onRead, thenRead, markLength, unmarked, Scan, started, faultAt, endsFigure, passed, withFigure, unlessAbove, withDigit, closed, afterByte, scanned, wholeScan, enough, figuresOf}
 use Rattle.order_text.specs.WordLaws.{short-unmarked}

@@ -12,7 +12,7 @@ use lib.ListN.{length, drop, getD, drop-of-length-le}
 use Rattle.encoding.specs.StoreLaws.{drop-next}
 use Rattle.typed_figures.specs.Decimal.{isDigit, pushed}
 use Rattle.typed_figures.specs.Figures.{tariffFigures, limitOf, figuresLimit, factorStands}
-use Rattle.order_text.specs.declared.faults.Cause.the-variants.{Byte, Factor, Many, Few}
+use Rattle.order_text.specs.declared.faults.Reason.the-variants.{Byte, Factor, Many, Few}
 use Rattle.order_text.specs.declared.faults.Fault.{Fault}
 use Rattle.order_text.specs.Text.{Reading, read, faulty, onRead, thenRead, Scan, faultAt, endsFigure, endsLine, passed, withValue, unlessAbove, withDigit, withFigure, closed, afterByte, scanned, wholeScan, enough, figuresOf}
 

@@ -14,8 +14,8 @@ use Rattle.text.specs.Numeral.{numeral, ended}
 use Rattle.text.specs.Lines.{newline}
 use Rattle.typed_figures.specs.Decimal.{isDigit, pushed}
 use Rattle.typed_figures.specs.Figures.{demandsOf, factorStands, figuresLimit, limitOf, tariffFigures, tariffOf}
-use Rattle.order_text.specs.declared.faults.Cause.{Cause}
-use Rattle.order_text.specs.declared.faults.Cause.the-variants.{Byte, Above, Factor, Many, Few}
+use Rattle.order_text.specs.declared.faults.Reason.{Reason}
+use Rattle.order_text.specs.declared.faults.Reason.the-variants.{Byte, Above, Factor, Many, Few}
 use Rattle.order_text.specs.declared.faults.Fault.{Fault}
 use Rattle.order_text.specs.declared.typed_orders.TextAnswer.{TextAnswer}
 use Rattle.order_text.specs.declared.typed_orders.TextAnswer.the-variants.{Written, Faulty, Refused}
@@ -82,8 +82,8 @@ abbrev pub started : ℕ → Scan
 started place = record { line = 1; place = place; returned = false; comment = false; begun = false; value = 0; figures = [] }
 
 -- A fault here is about the figure that is begun or due.
-abbrev pub faultAt : Cause → Scan → Fault
-faultAt cause s = record { line = s .line; place = s .place; figure = length (s .figures); cause = cause }
+abbrev pub faultAt : Reason → Scan → Fault
+faultAt reason s = record { line = s .line; place = s .place; figure = length (s .figures); reason = reason }
 
 -- Past a byte that belongs to no figure: a line ends with its comment, a # opens one.
 abbrev pub passed : Scan → ℕ → Scan
@@ -192,17 +192,17 @@ fileOf room text = onRead (writeFigures room) (figuresOf text)
 
 -- Document 01's number of a fault ("Refusals by number"): 3 for more or fewer demands than a trace has, 5 for any other
 -- fault of a figure.
-abbrev pub causeNumber : Cause → ℕ
-causeNumber Byte = 5
-causeNumber Above = 5
-causeNumber Factor = 5
-causeNumber Many = 3
-causeNumber Few = 3
+abbrev pub reasonNumber : Reason → ℕ
+reasonNumber Byte = 5
+reasonNumber Above = 5
+reasonNumber Factor = 5
+reasonNumber Many = 3
+reasonNumber Few = 3
 
 -- What a text gives in document 01's terms: a fault is the refusal by its number.
 abbrev pub numbered : {A : Type 0} → Reading (Answer A) → Answer A
 numbered (read a) = a
-numbered (faulty x) = refused (causeNumber (x .cause))
+numbered (faulty x) = refused (reasonNumber (x .reason))
 
 abbrev pub orderOf : ℕ → List ℕ → Answer (List ℕ)
 orderOf room text = numbered (fileOf room text)

@@ -2,9 +2,9 @@
 use terms::Refusal;
 ghost use mathlib.Core.Path.{_≡_};
 ghost use Rattle.terms.specs.Refusals.{numberOf};
-ghost use Rattle.order_text.specs.Text.{causeNumber};
+ghost use Rattle.order_text.specs.Text.{reasonNumber};
 
-pub enum Cause {
+pub enum Reason {
     // a byte that belongs to no figure
     Byte,
     // a figure above its limit
@@ -19,23 +19,23 @@ pub enum Cause {
 
 // A fault: its line, from 1; its place, how many bytes of the text stand before the one that shows it,
 // or how many the text has where its end does; the figure that is being read or is due there, from 0
-// for the rate price to 6 for the depth cap, and from 7 on for the demands; and its cause.
+// for the rate price to 6 for the depth cap, and from 7 on for the demands; and its reason.
 pub struct Fault {
     pub line: usize,
     pub place: usize,
     pub figure: usize,
-    pub cause: Cause,
+    pub reason: Reason,
 }
 
-// The refusal that a fault of this cause is: 3 for too many or too few demands, 5 for any other.
-pub fn refusal_of(cause: Cause) -> Refusal
-    ensures { λ r. ⌜ numberOf r ≡ causeNumber cause ⌝ }
+// The refusal that a fault for this reason is: 3 for too many or too few demands, 5 for any other.
+pub fn refusal_of(reason: Reason) -> Refusal
+    ensures { λ r. ⌜ numberOf r ≡ reasonNumber reason ⌝ }
 {
-    match cause {
-        Cause::Byte => Refusal::Figure,
-        Cause::Above => Refusal::Figure,
-        Cause::Factor => Refusal::Figure,
-        Cause::Many => Refusal::Periods,
-        Cause::Few => Refusal::Periods,
+    match reason {
+        Reason::Byte => Refusal::Figure,
+        Reason::Above => Refusal::Figure,
+        Reason::Factor => Refusal::Figure,
+        Reason::Many => Refusal::Periods,
+        Reason::Few => Refusal::Periods,
     }
 }

@@ -2,14 +2,14 @@
 // and written as an order file. A byte order mark may stand in front. Spaces, tabs, carriage returns
 // and newlines stand between figures; a line ends at a carriage return, at a newline or at the two
 // together, and a # opens a comment that runs to the end of its line. A fault says its line, its
-// place, its figure and its cause, is refusal 3 or 5 by it, and changes nothing that is lent.
+// place, its figure and its reason, is refusal 3 or 5 by it, and changes nothing that is lent.
 mod bytes;
 mod faults;
 mod scan;
 mod typed_orders;
 mod words;
 
-pub use faults::Cause;
+pub use faults::Reason;
 pub use faults::Fault;
 pub use faults::refusal_of;
 pub use typed_orders::TextAnswer;

@@ -3,7 +3,7 @@
 use crate::bytes::ends_figure;
 use crate::bytes::ends_line;
 use crate::bytes::mark_length;
-use crate::faults::Cause;
+use crate::faults::Reason;
 use crate::faults::Fault;
 use typed_figures::digits::Push;
 use typed_figures::digits::is_digit;
@@ -59,7 +59,7 @@ pub(crate) fn read_figures(text: &[u8], figures: &mut [u32]) -> Step
         Step::Faulty(fault) => return Step::Faulty(fault),
     };
     if at.count <= TARIFF_FIGURES {
-        return fault_at(at, Cause::Few);
+        return fault_at(at, Reason::Few);
     }
     Step::On(at)
 }
@@ -106,7 +106,7 @@ fn after_byte(at: Cursor, byte: u8, figures: &mut [u32]) -> Step
         return with_digit(at, byte);
     }
     if !ends_figure(byte) {
-        return fault_at(at, Cause::Byte);
+        return fault_at(at, Reason::Byte);
     }
     match close(at, figures) {
         Step::On(next) => Step::On(pass(next, byte)),
@@ -139,10 +139,10 @@ fn with_digit(at: Cursor, byte: u8) -> Step
     ensures { λ r. ⌜ Steps (λ s. withDigit s byte) at r ⌝ }
 {
     if FIGURES_LIMIT <= at.count {
-        return fault_at(at, Cause::Many);
+        return fault_at(at, Reason::Many);
     }
     let Push::Value(value) = push_digit(at.value, byte, limit_of(at.count)) else {
-        return fault_at(at, Cause::Above);
+        return fault_at(at, Reason::Above);
     };
     Step::On(Cursor {
         line: at.line,
@@ -167,7 +167,7 @@ fn close(at: Cursor, figures: &mut [u32]) -> Step
     }
     let index = at.count;
     if !factor_stands(index, figures[P_INDEX], at.value) {
-        return fault_at(at, Cause::Factor);
+        return fault_at(at, Reason::Factor);
     }
     figures[index] = at.value;
     Step::On(Cursor {
@@ -181,15 +181,15 @@ fn close(at: Cursor, figures: &mut [u32]) -> Step
     })
 }
 
-// A fault of this cause where the scan is.
-fn fault_at(at: Cursor, cause: Cause) -> Step
+// A fault for this reason where the scan is.
+fn fault_at(at: Cursor, reason: Reason) -> Step
     requires { ⌜ Fits at ⌝ }
-    ensures { λ r. ⌜ Steps (λ s. faulty (faultAt cause s)) at r ⌝ }
+    ensures { λ r. ⌜ Steps (λ s. faulty (faultAt reason s)) at r ⌝ }
 {
     Step::Faulty(Fault {
         line: at.line,
         place: at.place,
         figure: at.count,
-        cause,
+        reason,
     })
 }

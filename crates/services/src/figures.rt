@@ -1,7 +1,9 @@
-// The depth, the single bucket and the trial from an order file, as figures. Public only for this crate
-// and for the calls in C and Rust.
+// The depth, also with its cause, the single bucket and the trial from an order file, as figures. Public
+// only for this crate and for the calls in C and Rust.
 use bucket::TrialAnswer;
 use bucket::trial;
+use causes::ExplainAnswer;
+use causes::explain;
 use depth::DepthAnswer;
 use depth::depth_at;
 use depth::depth_from_end;
@@ -14,9 +16,10 @@ use terms::Rate;
 use terms::limits::TRACE_LIMIT;
 ghost use mathlib.Core.Path.{_≡_};
 ghost use Rattle.bucket.specs.Trial.{trialSays};
+ghost use Rattle.causes.specs.Cause.{explainSays};
 ghost use Rattle.depth.specs.Depth.{depthSays};
 ghost use Rattle.single.specs.Single.{singleSays};
-ghost use Rattle.services.specs.Services.{depthFor, depthFromEndFor, singleFor, trialFor};
+ghost use Rattle.services.specs.Services.{depthFor, depthFromEndFor, explainFor, singleFor, trialFor};
 
 // The smallest depth that carries an order's trace at a rate; or refusal 1 to 5 of the order, 5 of the
 // rate or 7.
@@ -43,6 +46,19 @@ pub fn depth_from_end_for(order: &[u8], rate: Rate) -> DepthAnswer
     };
     let tariff = found.tariff;
     depth_from_end(&demands[..found.periods as usize], rate, tariff)
+}
+
+// The smallest depth that carries an order's trace at a rate, with its cause; or the same refusals.
+pub fn explain_for(order: &[u8], rate: Rate) -> ExplainAnswer
+    ensures { λ r. ⌜ explainSays r ≡ explainFor (rate .0) (now (order .entry)) ⌝ }
+{
+    let mut demands = [0u16; TRACE_LIMIT];
+    let found = match spread_order(order, &mut demands) {
+        OrderAnswer::Read(x) => x,
+        OrderAnswer::Refused(why) => return ExplainAnswer::Refused(why),
+    };
+    let tariff = found.tariff;
+    explain(&demands[..found.periods as usize], rate, tariff)
 }
 
 // The single bucket for an order; or refusal 1 to 5 of the order or 7.

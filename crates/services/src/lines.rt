@@ -11,7 +11,7 @@ use single::SingleAnswer;
 use terms::Bucket;
 use terms::Rate;
 use text::fills::fill;
-use text::lines::put_depth_line;
+use text::lines::put_depth;
 use text::lines::put_single_line;
 use text::lines::put_trial_line;
 ghost use mathlib.Core.Path.{_≡_};
@@ -53,7 +53,7 @@ fn fill_depth(answer: DepthAnswer, text: &mut [u8]) -> FillAnswer
         DepthAnswer::Refused(why) => return FillAnswer::Refused(why),
     };
     let mut ready = [0u8; LONGEST_DEPTH];
-    let length = put_depth_line(&mut ready, 0, depth);
+    let length = put_depth(&mut ready, 0, depth, b'\n');
     fill(&ready[..length], text)
 }
 

@@ -9,11 +9,12 @@ use lib.ListN.{length, length-append}
 use Rattle.terms.specs.declared.Bucket.{Bucket}
 use Rattle.terms.specs.declared.refusal.Refusal.{Refusal}
 use Rattle.terms.specs.declared.refusal.Refusal.the-variants.{Short, Foreign, Periods, Misplaced, Figure, List, NoPlan, Meter, Full, Unequal}
+use Rattle.terms.specs.Limits.{depthLimit, traceLimit}
 use Rattle.terms.specs.RangeRules.{BucketRange}
 use Rattle.terms.specs.Refusals.{numberOf}
 use Rattle.text.specs.Numeral.{numeral, ended}
 use Rattle.text.specs.Megabits.{megabits}
-use Rattle.text.specs.Lines.{newline, space, depthLine, depthWord, noLine, refusalLine, refusedWord, singleLine, singleWord, trialLine, trialWord, yesLine, yesWord}
+use Rattle.text.specs.Lines.{newline, space, depthFields, depthLine, depthWord, noLine, nothingFields, openingFields, openingWord, refusalLine, refusedWord, singleLine, singleWord, stretchFields, stretchWord, trialLine, trialWord, yesLine, yesWord}
 use Rattle.text.specs.NumeralLaws.{numeral-short}
 use Rattle.text.specs.MegabitsLaws.{megabits-short, figure-short}
 use Rattle.text.specs.PutLaws.{ended-length}
@@ -95,14 +96,50 @@ single-short b cost h l =
 
 -- ---- A depth of 32 bits
 
+-- The bytes beside the figure: the word, the space and the byte behind it.
+depth-length : (depth after : ℕ) → length (depthFields depth after) ≡ 7 + length (megabits (pos depth))
+depth-length depth after = omega (arith, length-append (ended depthWord space) (ended (megabits (pos depth)) after), ended-length (megabits (pos depth)) after)
+
 abbrev pub longestDepth : ℕ
 longestDepth = 18
 
 pub depth-short : (depth : ℕ) → depth < 2 ^ 32 → length (depthLine depth) ≤ longestDepth
-depth-short depth h =
-    let e₁ = ended depthWord space in
-    let e₂ = ended (megabits (pos depth)) newline in
-    omega (arith, length-append e₁ e₂, ended-length (megabits (pos depth)) newline, megabits-short (pos depth) 6 (omega (arith, h)))
+depth-short depth h = omega (arith, depth-length depth newline, megabits-short (pos depth) 6 (omega (arith, h)))
+
+-- ---- A depth in its range with what sets it: periods of a trace
+
+abbrev pub longestExplained : ℕ
+longestExplained = 31
+
+abbrev pub longestCause : ℕ
+longestCause = 16
+
+pub front-short : (depth : ℕ) → depth ≤ depthLimit → length (depthFields depth space) + longestCause ≤ longestExplained
+front-short depth h = omega (arith, depth-length depth space, megabits-short (pos depth) 3 (omega (arith, h)))
+
+pub nothing-short : length nothingFields ≤ longestCause
+nothing-short = omega arith
+
+pub opening-short : (v : ℕ) → v ≤ traceLimit → length (openingFields v) ≤ longestCause
+opening-short v h =
+    let e₁ = ended openingWord space in
+    let e₂ = ended (numeral v) newline in
+    omega (arith, length-append e₁ e₂, ended-length (numeral v) newline, numeral-short 19 2 v (omega (arith, h)))
+
+pub stretch-short : (u v : ℕ) → u ≤ traceLimit → v ≤ traceLimit → length (stretchFields u v) ≤ longestCause
+stretch-short u v h k =
+    let e₁ = ended stretchWord space in
+    let e₂ = ended (numeral u) space in
+    let e₃ = ended (numeral v) newline in
+    omega (
+      arith,
+      length-append (e₁ ++ e₂) e₃,
+      length-append e₁ e₂,
+      ended-length (numeral u) space,
+      ended-length (numeral v) newline,
+      numeral-short 19 2 u (omega (arith, h)),
+      numeral-short 19 2 v (omega (arith, k)),
+    )
 
 -- ---- A check: the excess has 64 bits
 

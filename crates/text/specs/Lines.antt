@@ -1,5 +1,6 @@
 -- The lines of the printed sheet (01, "The printed sheet": one space between fields, byte 10 after each line), and a
--- line each for the trial, the single bucket, a check (02, job 1), a depth (02, job 2) and a refusal.
+-- line each for the trial, the single bucket, a check (02, job 1), a depth (02, job 2), also with what sets it (02,
+-- job 3), and a refusal.
 -- Assumes nothing.
 use Prim.Native.Nat.{ℕ}
 use mathlib.Core.List.{List, [], _∷_, _++_}
@@ -30,6 +31,15 @@ singleWord = 115 ∷ 105 ∷ 110 ∷ 103 ∷ 108 ∷ 101 ∷ []
 
 abbrev pub depthWord : List ℕ
 depthWord = 100 ∷ 101 ∷ 112 ∷ 116 ∷ 104 ∷ []
+
+abbrev pub nothingWord : List ℕ
+nothingWord = 110 ∷ 111 ∷ 116 ∷ 104 ∷ 105 ∷ 110 ∷ 103 ∷ []
+
+abbrev pub openingWord : List ℕ
+openingWord = 111 ∷ 112 ∷ 101 ∷ 110 ∷ 105 ∷ 110 ∷ 103 ∷ []
+
+abbrev pub stretchWord : List ℕ
+stretchWord = 115 ∷ 116 ∷ 114 ∷ 101 ∷ 116 ∷ 99 ∷ 104 ∷ []
 
 abbrev pub yesWord : List ℕ
 yesWord = 121 ∷ 101 ∷ 115 ∷ []
@@ -67,9 +77,24 @@ trialLine spare over = ended trialWord space ++ ended (megabits spare) space ++ 
 abbrev pub singleLine : Bucket → ℕ → List ℕ
 singleLine b cost = ended singleWord space ++ bucketFields b ++ ended (numeral cost) newline
 
--- A depth: the word depth, a space and the depth in megabits.
+-- A depth: the word depth, a space and the depth in megabits; then a byte.
+abbrev pub depthFields : ℕ → ℕ → List ℕ
+depthFields depth after = ended depthWord space ++ ended (megabits (pos depth)) after
+
+-- … as a line of its own.
 abbrev pub depthLine : ℕ → List ℕ
-depthLine depth = ended depthWord space ++ ended (megabits (pos depth)) newline
+depthLine depth = depthFields depth newline
+
+-- What sets a depth, behind it on its line: the word nothing; the word opening and its number of periods; the word
+-- stretch, its first period and its last.
+abbrev pub nothingFields : List ℕ
+nothingFields = ended nothingWord newline
+
+abbrev pub openingFields : ℕ → List ℕ
+openingFields = numberLine openingWord
+
+abbrev pub stretchFields : ℕ → ℕ → List ℕ
+stretchFields first last = ended stretchWord space ++ ended (numeral first) space ++ ended (numeral last) newline
 
 -- A check that ends with yes: the word yes, a space and the excess, a plain number as the cost is.
 abbrev pub yesLine : ℕ → List ℕ

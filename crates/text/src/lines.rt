@@ -8,7 +8,7 @@ use terms::Bucket;
 use terms::Depth;
 ghost use Prim.Native.Nat.{_+_, _≤_};
 ghost use lib.ListN.{length};
-ghost use Rattle.text.specs.Lines.{bucketFields, bucketLine, depthLine, numberLine, planLine, refusalLine, singleLine, trialLine, yesLine};
+ghost use Rattle.text.specs.Lines.{bucketFields, bucketLine, depthFields, nothingFields, numberLine, openingFields, planLine, refusalLine, singleLine, stretchFields, trialLine, yesLine};
 ghost use Rattle.text.specs.PutLaws.{Puts};
 
 // The sheet's first line.
@@ -86,13 +86,39 @@ pub fn put_single_line(text: &mut [u8], at: usize, bucket: Bucket, cost: u64) ->
     put_number(text, end, cost, b'\n')
 }
 
-// The line of a depth.
-pub fn put_depth_line(text: &mut [u8], at: usize, depth: Depth) -> usize
-    requires { ⌜ at + length (depthLine (depth .0)) ≤ length (now text) ⌝ }
-    ensures { λ r. ⌜ Puts (now (text .entry)) at (depthLine (depth .0)) (now (text .exit)) r ⌝ }
+// A depth, then a byte: a line of its own, or the front of one.
+pub fn put_depth(text: &mut [u8], at: usize, depth: Depth, after: u8) -> usize
+    requires { ⌜ at + length (depthFields (depth .0) after) ≤ length (now text) ⌝ }
+    ensures { λ r. ⌜ Puts (now (text .entry)) at (depthFields (depth .0) after) (now (text .exit)) r ⌝ }
 {
     let end = put_word(text, at, b"depth", b' ');
-    put_tokens(text, end, depth.0, b'\n')
+    put_tokens(text, end, depth.0, after)
+}
+
+// What sets a depth, behind it on its line: nothing.
+pub fn put_nothing(text: &mut [u8], at: usize) -> usize
+    requires { ⌜ at + length nothingFields ≤ length (now text) ⌝ }
+    ensures { λ r. ⌜ Puts (now (text .entry)) at nothingFields (now (text .exit)) r ⌝ }
+{
+    put_word(text, at, b"nothing", b'\n')
+}
+
+// … an opening.
+pub fn put_opening(text: &mut [u8], at: usize, periods: u32) -> usize
+    requires { ⌜ at + length (openingFields periods) ≤ length (now text) ⌝ }
+    ensures { λ r. ⌜ Puts (now (text .entry)) at (openingFields periods) (now (text .exit)) r ⌝ }
+{
+    put_number_line(text, at, b"opening", periods as u64)
+}
+
+// … a stretch.
+pub fn put_stretch(text: &mut [u8], at: usize, first: u32, last: u32) -> usize
+    requires { ⌜ at + length (stretchFields first last) ≤ length (now text) ⌝ }
+    ensures { λ r. ⌜ Puts (now (text .entry)) at (stretchFields first last) (now (text .exit)) r ⌝ }
+{
+    let second = put_word(text, at, b"stretch", b' ');
+    let third = put_number(text, second, first as u64, b' ');
+    put_number(text, third, last as u64, b'\n')
 }
 
 // The line of a plan that holds, with its excess.

@@ -1,5 +1,5 @@
 // One text: what it shows, and what the call answers.
-use order_text::Cause;
+use order_text::Reason;
 use order_text::Fault;
 use order_text::TextAnswer;
 use order_text::order_of_text;
@@ -36,15 +36,15 @@ pub fn print(answer: TextAnswer) {
 fn print_fault(fault: Fault) {
     report::figure(b" line", fault.line as u64);
     report::figure(b" figure", fault.figure as u64);
-    let cause = fault.cause;
-    match cause {
-        Cause::Byte => report::words(b" byte"),
-        Cause::Above => report::words(b" above"),
-        Cause::Factor => report::words(b" factor"),
-        Cause::Many => report::words(b" many"),
-        Cause::Few => report::words(b" few"),
+    let reason = fault.reason;
+    match reason {
+        Reason::Byte => report::words(b" byte"),
+        Reason::Above => report::words(b" above"),
+        Reason::Factor => report::words(b" factor"),
+        Reason::Many => report::words(b" many"),
+        Reason::Few => report::words(b" few"),
     }
-    report::refusal(refusal_of(cause));
+    report::refusal(refusal_of(reason));
 }
 
 // The length of the file; 0 where none is written.

@@ -3,7 +3,7 @@
 use crate::answers::print;
 use cases::PLAIN_ROOM;
 use cases::plain_text;
-use order_text::Cause;
+use order_text::Reason;
 use order_text::Fault;
 use order_text::TextAnswer;
 use order_text::order_of_text;
@@ -44,9 +44,9 @@ fn is_fault_there(answer: TextAnswer) -> bool {
 }
 
 fn is_there(fault: Fault) -> bool {
-    let cause = fault.cause;
-    match cause {
-        Cause::Byte => (fault.line == 2) & (fault.figure == 7) & (fault.place == PLACE),
+    let reason = fault.reason;
+    match reason {
+        Reason::Byte => (fault.line == 2) & (fault.figure == 7) & (fault.place == PLACE),
         _ => false,
     }
 }

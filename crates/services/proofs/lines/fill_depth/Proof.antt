@@ -24,21 +24,21 @@ enum-known-answer-2 c = search needs
 returns : tie.Need-returns
 returns c = refused-fills _ _ _ _ (ap depthSays (c .before .answer2 .given .1))
 
-slice-aggregate-put-depth-line : tie.Need-slice-aggregate-put-depth-line
-slice-aggregate-put-depth-line c = search needs
+slice-aggregate-put-depth : tie.Need-slice-aggregate-put-depth
+slice-aggregate-put-depth c = search needs
 
-put-depth-line-requires : tie.Need-put-depth-line-requires
-put-depth-line-requires c κs = omega (arith, room (c .before))
+put-depth-requires : tie.Need-put-depth-requires
+put-depth-requires c κs = omega (arith, room (c .before))
 
 array-share-prefix-ready : tie.Need-array-share-prefix-ready
 array-share-prefix-ready c =
     let p = c .before in
-    ready-inside (zeros longestDepth) _ (room (p .before .before)) _ _ (p .put-depth-line .ensures)
+    ready-inside (zeros longestDepth) _ (room (p .before .before)) _ _ (p .put-depth .ensures)
 
 slice-aggregate-fill : tie.Need-slice-aggregate-fill
 slice-aggregate-fill c =
     let p = c .before .before in
-    ready-count (zeros longestDepth) _ (room (p .before .before)) _ _ (p .put-depth-line .ensures)
+    ready-count (zeros longestDepth) _ (room (p .before .before)) _ _ (p .put-depth .ensures)
 
 fill-requires : tie.Need-fill-requires
 fill-requires c κs = search needs
@@ -52,7 +52,7 @@ returns-2 c =
     let y = p .before .before in
     let old = y .before .before .before .before .args .text .now in
     found-fills _ _ old _ (ap depthSays (y .before .answer .given .1)) _ _
-    (ready-fills (zeros longestDepth) _ (room y) _ _ (p .put-depth-line .ensures) old _ _ (c .before .before .fill .ensures))
+    (ready-fills (zeros longestDepth) _ (room y) _ _ (p .put-depth .ensures) old _ _ (c .before .before .fill .ensures))
 
 pub fill-depth-spec : {M : Type 1} → statement M
 fill-depth-spec =
@@ -61,8 +61,8 @@ fill-depth-spec =
     enum-known-answer
     enum-known-answer-2
     returns
-    slice-aggregate-put-depth-line
-    put-depth-line-requires
+    slice-aggregate-put-depth
+    put-depth-requires
     array-share-prefix-ready
     slice-aggregate-fill
     fill-requires

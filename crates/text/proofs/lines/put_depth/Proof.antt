@@ -3,18 +3,18 @@ use Prim.Native.Nat.{ℕ}
 use mathlib.Core.List.{List}
 use borrow.Author.Needs.{needs}
 use lib.IntN.{pos}
-use Rattle.text.specs.Lines.{depthWord, newline, space}
+use Rattle.text.specs.Lines.{depthWord, space}
 use Rattle.text.specs.Megabits.{megabits}
 use Rattle.text.specs.Numeral.{ended}
 use Rattle.text.specs.ChainLaws.{first-of-two, second-of-two, two}
-use Rattle.text.proofs.lines.put_depth_line.Statement.{statement}
-use Rattle.text.proofs.lines.put_depth_line.Tie as tie
+use Rattle.text.proofs.lines.put_depth.Statement.{statement}
+use Rattle.text.proofs.lines.put_depth.Tie as tie
 
 abbrev field₁ : tie.Start → List ℕ
 field₁ s = ended depthWord space
 
 abbrev field₂ : tie.Start → List ℕ
-field₂ s = ended (megabits (pos (s .args .depth .0))) newline
+field₂ s = ended (megabits (pos (s .args .depth .0))) (s .args .after)
 
 slice-aggregate-put-word : tie.Need-slice-aggregate-put-word
 slice-aggregate-put-word c = search needs
@@ -40,8 +40,8 @@ returns c =
     let s = c1 .before .before .before .before in
     two (s .args .text .now) (s .args .at) (field₁ s) (field₂ s) (c1 .put-word .ensures) (c2 .put-tokens .ensures)
 
-pub put-depth-line-spec : {M : Type 1} → statement M
-put-depth-line-spec =
+pub put-depth-spec : {M : Type 1} → statement M
+put-depth-spec =
     tie.close
     (tie.spec
     slice-aggregate-put-word
