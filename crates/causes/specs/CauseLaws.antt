@@ -14,21 +14,20 @@ use lib.Seq.{drop-at, length-take-le, slice, take-add}
 use Rattle.terms.specs.declared.Tariff.{Tariff}
 use Rattle.terms.specs.Answer.{Answer, figures, refused, figureOr, weigh}
 use Rattle.terms.specs.AnswerLaws.{weigh-figures}
-use Rattle.terms.specs.Bools.{not-true-false, true-false}
+use Rattle.terms.specs.Bools.{true-false}
 use Rattle.terms.specs.Limits.{depthLimit}
 use Rattle.terms.specs.RangeLaws.{periods-range}
 use Rattle.terms.specs.RangeRules.{PeriodsRange}
 use Rattle.terms.specs.Ranges.{periodsOk}
 use Rattle.bucket.specs.Step.{startOf}
-use Rattle.bucket.specs.Trace.{carries, carriesFrom}
 use Rattle.depth.specs.Depth.{depthOf, rateOk, tariffDepth}
 use Rattle.depth.specs.DepthLaws.{depth-found}
 use Rattle.depth.specs.Need.{needBefore}
-use Rattle.depth.specs.NeedLaws.{Meets, carried-meets, depth-meets-least}
+use Rattle.depth.specs.NeedLaws.{Meets, depth-meets-least}
 use Rattle.depth.specs.SearchLaws.{FirstFrom, IsFirstFrom, NoneFrom, from-is}
 use Rattle.depth.specs.WalkedLaws.{RateRange, rate-range}
 use Rattle.causes.specs.Cause.{SetBy, nothing, opening, stretch, fromTo, needOf, short, isFound, openingEnd, stretchStart, stretchEnd, shortOpening, shortStretch, causeOf}
-use Rattle.causes.specs.PeriodNeedLaws.{all-needed, fronts-met}
+use Rattle.causes.specs.PeriodNeedLaws.{fronts-met}
 
 -- ---- What is true of a cause, y being the starting tokens of depth C
 
@@ -81,11 +80,11 @@ module _ (r : ℕ) (ds : List ℕ) where
       go (refused n) k e = λ u h m. met C u v (k .1 u h (omega arith))
 
   -- Periods n + 1 to n + m.
-  part : (n m : ℕ) → n ≤ length ds → slice n (n + m) ds ≡ take m (drop n ds)
+  pub part : (n m : ℕ) → n ≤ length ds → slice n (n + m) ds ≡ take m (drop n ds)
   part n m h = ap (drop n) (take-add n m ds) ∙ drop-at (take n ds) (take m (drop n ds)) n (length-take-le n ds h)
 
   -- A bucket that no opening and no stretch is short for meets the needs before every period.
-  all-met : (y C : ℕ) → OpeningsMet r y ds → ((w : ℕ) → 2 ≤ w → w ≤ length ds → StretchesMet r C ds w) → Meets r C y ds
+  pub all-met : (y C : ℕ) → OpeningsMet r y ds → ((w : ℕ) → 2 ≤ w → w ≤ length ds → StretchesMet r C ds w) → Meets r C y ds
   all-met y C openings stretches = record { first = fronts-met r y ds openings; later = later }
     where
       later : (n : ℕ) → needBefore r (drop (suc n) ds) ≤ C
@@ -237,17 +236,3 @@ module _ (t : Tariff) (r : ℕ) (ds : List ℕ) {B : ℕ} (e : depthOf t r ds �
   -- Nothing is said at depth 0 only: for a depth above 0 a cause is always found.
   pub cause-found : cause ≡ nothing → B ≡ 0
   cause-found h = subst (IsCause (t .factor .p) (t .factor .q) r ds B) h cause-true
-
--- ---- In the bucket
-
--- Tokens that fall short of the need of some periods do not carry them, in a bucket of any depth.
-pub short-discards : (r B y : ℕ) (es : List ℕ) → y < needOf r es → carriesFrom r B y es ≡ false
-short-discards r B y es h = not-true-false _ (λ e. omega (arith, carried-meets r B y es e .first, all-needed r es))
-
--- So a depth one smaller, fresh, does not carry the opening that is named …
-pub opening-discards : (p q r : ℕ) (ds : List ℕ) (B v : ℕ) → IsCause p q r ds B (opening v) → carries p q r (B - 1) (fromTo 1 v ds) ≡ false
-opening-discards p q r ds B v k = short-discards r (B - 1) _ _ (k .short-of)
-
--- … and however full it is, it does not carry the stretch.
-pub stretch-discards : (p q r : ℕ) (ds : List ℕ) (B u v : ℕ) → IsCause p q r ds B (stretch u v) → (y : ℕ) → y ≤ B - 1 → carriesFrom r (B - 1) y (fromTo u v ds) ≡ false
-stretch-discards p q r ds B u v k y l = short-discards r (B - 1) y _ (omega (arith, k .short-of))
