@@ -3,7 +3,7 @@
 -- Assumes nothing.
 use Prim.Native.Nat.{ℕ, zero, suc, _+_, _-_, _≤_, _<_}
 use native.Mathlib.Omega.{arith}
-use native.Mathlib.Nat.{le-trans}
+use native.Mathlib.Nat.{div-le-of-le-mul, le-trans}
 use mathlib.Core.Path.{_≡_, refl, sym, ap, subst, _∙_}
 use mathlib.Core.Bool.{Bool, true, false, cond}
 use mathlib.Core.List.{List}
@@ -23,11 +23,11 @@ use Rattle.bucket.specs.Step.{startOf}
 use Rattle.depth.specs.Depth.{depthOf, rateOk, tariffDepth}
 use Rattle.depth.specs.DepthLaws.{depth-found}
 use Rattle.depth.specs.Need.{needBefore}
-use Rattle.depth.specs.NeedLaws.{Meets, depth-meets-least}
+use Rattle.depth.specs.NeedLaws.{Meets, depth-meets, depth-meets-least}
 use Rattle.depth.specs.SearchLaws.{FirstFrom, IsFirstFrom, NoneFrom, from-is}
 use Rattle.depth.specs.WalkedLaws.{RateRange, rate-range}
 use Rattle.causes.specs.Cause.{SetBy, nothing, opening, stretch, fromTo, needOf, short, isFound, openingEnd, stretchStart, stretchEnd, shortOpening, shortStretch, causeOf}
-use Rattle.causes.specs.PeriodNeedLaws.{fronts-met}
+use Rattle.causes.specs.PeriodNeedLaws.{front-need, fronts-met}
 
 -- ---- What is true of a cause, y being the starting tokens of depth C
 
@@ -112,6 +112,10 @@ asked t r ds e =
     let n = weigh-figures (periodsOk (length ds)) 3 (weigh (rateOk t r) 5 (tariffDepth t r ds)) e in
     let k = rate-range t r (weigh-figures (rateOk t r) 5 (tariffDepth t r ds) (n .1) .0) in
     record { periods = periods-range _ (n .0); rate = k; depths = le-trans (depth-found t r ds e .within) (k .tariff .depth-caps) }
+
+start-empty : (q B : ℕ) → startOf 0 q B ≤ 0
+unfolding startOf
+start-empty q B = div-le-of-le-mul q (omega arith)
 
 -- ---- What the searches find for a depth above 0
 
@@ -236,3 +240,10 @@ module _ (t : Tariff) (r : ℕ) (ds : List ℕ) {B : ℕ} (e : depthOf t r ds �
   -- Nothing is said at depth 0 only: for a depth above 0 a cause is always found.
   pub cause-found : cause ≡ nothing → B ≡ 0
   cause-found h = subst (IsCause (t .factor .p) (t .factor .q) r ds B) h cause-true
+
+  -- Of buckets that start empty no opening is named: the depth that is answered meets the need of every opening.
+  pub empty-not-opening : t .factor .p ≡ 0 → (v : ℕ) → cause ≡ opening v → ⊥
+  empty-not-opening z v h =
+      let k : OpeningShort r (startOf (t .factor .p) (t .factor .q) (B - 1)) ds v = subst (IsCause (t .factor .p) (t .factor .q) r ds B) h cause-true in
+      let n : needBefore r ds ≤ startOf 0 (t .factor .q) B = subst (λ (p : ℕ). needBefore r ds ≤ startOf p (t .factor .q) B) z (depth-meets t r ds e .first) in
+      omega (arith, k .short-of, front-need r v ds, n, start-empty (t .factor .q) B)

@@ -1,5 +1,5 @@
--- What a cause says of the bucket: the periods that are named are not carried with one token of depth less, and the last
--- of them is the first period in which such a bucket discards.
+-- What a cause says of the bucket: the periods that are named are not carried with one token of depth less, and the
+-- last of them is the first period in which such a bucket discards.
 -- Assumes nothing.
 use Prim.Native.Nat.{ℕ, suc, _+_, _-_, _*_, _≤_, _<_}
 use native.Mathlib.Omega.{arith}
@@ -76,8 +76,8 @@ module _ (t : Tariff) (r : ℕ) (ds : List ℕ) {B : ℕ} (e : depthOf t r ds �
       let f = part r ds (u - 1) (v - (u - 1)) (omega arith) in
       omega (arith, a, front-need r (v - (u - 1)) (drop (u - 1) ds), ap (needOf r) f, ap (λ (j : ℕ). needOf r (slice (u - 1) j ds)) n)
 
-  -- No short stretch ends before the opening that is named: what the periods from its end to the opening's demand, their
-  -- tokens pay for, so the opening would be short at its end already.
+  -- No short stretch ends before the opening that is named: what the periods from its end to the opening's demand,
+  -- their tokens pay for, so the opening would be short at its end already.
   before-opening : (v : ℕ) → OpeningShort r y ds v → (w : ℕ) → w < v → StretchesMet r C ds w
   unfolding total
   before-opening v k w l u h m = go (ltb C (needOf r (fromTo u w ds))) refl
