@@ -1,5 +1,5 @@
-//! How fast the product's series, single, sheet, check and depth are, as ratios in one run: against the plain dynamic
-//! programme of `paper`, against the product's own algorithm in Rust, and against the calls that they stand for.
+//! How fast the product's series, single, sheet, check, depth and its cause are, as ratios in one run: against the plain
+//! dynamic programme of `paper`, against the product's own algorithm in Rust, and against the calls that they stand for.
 //! Prints the appendix of docs/PERFORMANCE.md.
 
 use metqoraz::calls::{Depth, Rate};
@@ -26,13 +26,23 @@ struct Case {
     order: Vec<u8>,
 }
 
+fn case_of(trace: Vec<u16>, tariff: Tariff) -> Case {
+    let order = write_order(&tariff, &trace).unwrap_or_default();
+    Case { trace, tariff, order }
+}
+
 /// A trace of the shape, always the same one, with its front cut to the length.
 fn case(shape: Shape, periods: usize, prices: (u32, u32), fee: u32, rate_cap: u32) -> Case {
     let trace = trace(shape, 512, &mut Seed(11))[..periods].to_vec();
     let (rate_price, depth_price) = prices;
-    let tariff = Tariff { rate_price, depth_price, fee, p: 1, q: 2, rate_cap, depth_cap: 1_000_000 };
-    let order = write_order(&tariff, &trace).unwrap_or_default();
-    Case { trace, tariff, order }
+    case_of(trace, Tariff { rate_price, depth_price, fee, p: 1, q: 2, rate_cap, depth_cap: 1_000_000 })
+}
+
+/// A first demand, then one more in each period than a rate of 1,000 gains: the depth's cause ends with the trace.
+fn rising(periods: usize, first: u16, p: u32) -> Case {
+    let trace = [first].into_iter().chain(vec![1_001; periods - 1]).collect();
+    let tariff = Tariff { rate_price: 0, depth_price: 0, fee: 0, p, q: 2, rate_cap: 4_095, depth_cap: 1_000_000 };
+    case_of(trace, tariff)
 }
 
 /// The time of one run, in seconds.
@@ -139,21 +149,25 @@ fn ratio_tables() {
     table("Single: plain / product", &[100_000], 1, Case::single_against_plain);
 }
 
-/// A table of ratios by the rate. Prices and fee have no part in it.
-fn rate_table(title: &str, ratio: impl Fn(&Case, u32) -> f64) {
+/// The depth from the end against the forward one, by the rate. Prices and fee have no part in it.
+fn depth_table() {
     let columns = RATES.map(|rate| format!("rate {}", grouped(rate))).join(" | ");
-    println!("\n### {title}, T = 512\n\n| trace | {columns} |\n|---|---|---|---|---|---|");
+    println!("\n### Depth from the end / depth, T = 512\n\n| trace | {columns} |\n|---|---|---|---|---|---|");
     for shape in SHAPES {
         let case = case(shape, 512, (2, 1), 0, 4_095);
-        let cells = RATES.map(|rate| format!("{:.2}", ratio(&case, rate))).join(" | ");
+        let cells = RATES.map(|rate| format!("{:.2}", case.against_depth(rate, calls::depth_from_end))).join(" | ");
         println!("| {shape:?} | {cells} |");
     }
 }
 
-/// The depth from the end and the depth with its cause, against the depth.
-fn depth_tables() {
-    rate_table("Depth from the end / depth", |case, rate| case.against_depth(rate, calls::depth_from_end));
-    rate_table("Depth with its cause / depth", |case, rate| case.against_depth(rate, calls::explain));
+/// The depth with its cause against the depth, for the causes that take longest to find.
+fn cause_table() {
+    let columns = LENGTHS.map(|periods| format!("T = {periods}")).join(" | ");
+    println!("\n### Depth with its cause / depth\n\n| cause | {columns} |\n|---|---|---|---|---|");
+    for (cause, first, p) in [("opening of T periods", 1_001, 1), ("stretch from 2 to T", 0, 2)] {
+        let cell = |periods| format!("{:.2}", rising(periods, first, p).against_depth(1_000, calls::explain));
+        println!("| {cause} | {} |", LENGTHS.map(cell).join(" | "));
+    }
 }
 
 /// How the product's time and the plain programme's grow with the trace and with the rate cap.
@@ -186,6 +200,7 @@ fn growth<S: Copy>(sizes: [S; 4], of: impl Fn(Shape, (u32, u32), S) -> Case) {
 
 fn main() {
     ratio_tables();
-    depth_tables();
+    depth_table();
+    cause_table();
     growth_tables();
 }
