@@ -1,6 +1,6 @@
-//! How fast the product's series, single, sheet, check, depth and its cause are, as ratios in one run: against the plain
-//! dynamic programme of `paper`, against the product's own algorithm in Rust, and against the calls that they stand for.
-//! Prints the appendix of docs/PERFORMANCE.md.
+//! How fast the product's series, single, sheet, check, depth and its cause are, as ratios in one run: against the
+//! plain dynamic programme of `paper`, against the product's own algorithm in Rust, and against the calls that they
+//! stand for. Prints the appendix of docs/PERFORMANCE.md.
 
 use metqoraz::calls::{Depth, Rate};
 use metqoraz::inputs::{trace, Seed, Shape};
