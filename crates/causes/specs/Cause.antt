@@ -58,17 +58,21 @@ stretchStart r C ds v = firstFrom (λ u. short r C ds u v) (v - 1) 2
 abbrev pub stretchEnd : ℕ → ℕ → List ℕ → Answer ℕ
 stretchEnd r C ds = firstFrom (λ v. isFound (stretchStart r C ds v)) (length ds - 1) 2
 
+-- What a fresh bucket of depth C starts with, by a tariff's factor.
+abbrev pub startAt : Tariff → ℕ → ℕ
+startAt t C = startOf (t .factor .p) (t .factor .q) C
+
 -- The opening that a bucket of depth C falls short of with its starting tokens, and the stretch that it falls short of
 -- with its depth.
-abbrev pub shortOpening : ℕ → ℕ → ℕ → List ℕ → ℕ → Answer SetBy
-shortOpening p q r ds C = onFigures opening (openingEnd r (startOf p q C) ds)
+abbrev pub shortOpening : Tariff → ℕ → List ℕ → ℕ → Answer SetBy
+shortOpening t r ds C = onFigures opening (openingEnd r (startAt t C) ds)
 
 abbrev pub shortStretch : ℕ → List ℕ → ℕ → Answer SetBy
 shortStretch r ds C = andThen (stretchEnd r C ds) (λ v. onFigures (λ u. stretch u v) (stretchStart r C ds v))
 
 -- Nothing at depth 0. Else what a depth one smaller falls short of: an opening goes before a stretch.
-unfoldable pub causeOf : ℕ → ℕ → ℕ → List ℕ → ℕ → SetBy
-causeOf p q r ds B = cond (eqb B 0) nothing (figureOr (shortOpening p q r ds (B - 1)) (figureOr (shortStretch r ds (B - 1)) nothing))
+unfoldable pub causeOf : Tariff → ℕ → List ℕ → ℕ → SetBy
+causeOf t r ds B = cond (eqb B 0) nothing (figureOr (shortOpening t r ds (B - 1)) (figureOr (shortStretch r ds (B - 1)) nothing))
 
 -- ---- The call
 
@@ -78,7 +82,7 @@ pub record Explanation : Type 0 where
   pub cause : SetBy
 
 abbrev pub explained : Tariff → ℕ → List ℕ → ℕ → Explanation
-explained t r ds B = record { depth = B; cause = causeOf (t .factor .p) (t .factor .q) r ds B }
+explained t r ds B = record { depth = B; cause = causeOf t r ds B }
 
 -- The refusals are the depth call's: 3, 5 and 7.
 abbrev pub explainOf : Tariff → ℕ → List ℕ → Answer Explanation

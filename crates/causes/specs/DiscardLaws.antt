@@ -15,13 +15,13 @@ use Rattle.terms.specs.declared.Tariff.{Tariff}
 use Rattle.terms.specs.Answer.{figures}
 use Rattle.terms.specs.Bools.{not-true-false}
 use Rattle.terms.specs.Records.{total}
-use Rattle.bucket.specs.Step.{startOf}
 use Rattle.bucket.specs.Trace.{carries, carriesFrom}
 use Rattle.depth.specs.Depth.{depthOf}
 use Rattle.depth.specs.Need.{needBefore}
 use Rattle.depth.specs.NeedLaws.{carried-meets, depth-meets, meets-carried}
-use Rattle.causes.specs.Cause.{opening, stretch, fromTo, needOf}
-use Rattle.causes.specs.CauseLaws.{IsCause, OpeningShort, StretchShort, StretchesMet, all-met, part}
+use Rattle.causes.specs.Cause.{opening, stretch, startAt, fromTo, needOf}
+use Rattle.causes.specs.CauseLaws.{IsCause}
+use Rattle.causes.specs.FoundLaws.{OpeningShort, StretchShort, StretchesMet, all-met, part}
 use Rattle.causes.specs.PeriodNeedLaws.{all-needed, demandOf, demand-both, front-need}
 
 -- Tokens that fall short of the need of some periods do not carry them, in a bucket of any depth.
@@ -29,12 +29,12 @@ pub short-discards : (r B y : ℕ) (es : List ℕ) → y < needOf r es → carri
 short-discards r B y es h = not-true-false _ (λ e. omega (arith, carried-meets r B y es e .first, all-needed r es))
 
 -- So a depth one smaller, fresh, does not carry the opening that is named …
-pub opening-discards : (p q r : ℕ) (ds : List ℕ) (B v : ℕ) → IsCause p q r ds B (opening v) → carries p q r (B - 1) (fromTo 1 v ds) ≡ false
-opening-discards p q r ds B v k = short-discards r (B - 1) _ _ (k .short-of)
+pub opening-discards : (t : Tariff) (r : ℕ) (ds : List ℕ) (B v : ℕ) → IsCause t r ds B (opening v) → carriesFrom r (B - 1) (startAt t (B - 1)) (fromTo 1 v ds) ≡ false
+opening-discards t r ds B v k = short-discards r (B - 1) _ _ (k .short-of)
 
 -- … and however full it is, it does not carry the stretch.
-pub stretch-discards : (p q r : ℕ) (ds : List ℕ) (B u v : ℕ) → IsCause p q r ds B (stretch u v) → (y : ℕ) → y ≤ B - 1 → carriesFrom r (B - 1) y (fromTo u v ds) ≡ false
-stretch-discards p q r ds B u v k y l = short-discards r (B - 1) y _ (omega (arith, k .short-of))
+pub stretch-discards : (t : Tariff) (r : ℕ) (ds : List ℕ) (B u v : ℕ) → IsCause t r ds B (stretch u v) → (y : ℕ) → y ≤ B - 1 → carriesFrom r (B - 1) y (fromTo u v ds) ≡ false
+stretch-discards t r ds B u v k y l = short-discards r (B - 1) y _ (omega (arith, k .short-of))
 
 -- ---- Sums of first periods
 
@@ -65,7 +65,7 @@ module _ (t : Tariff) (r : ℕ) (ds : List ℕ) {B : ℕ} (e : depthOf t r ds �
   C = B - 1
 
   abbrev y : ℕ
-  y = startOf (t .factor .p) (t .factor .q) C
+  y = startAt t C
 
   -- The depth that is answered meets the need of every stretch.
   stretch-met : (u v : ℕ) → 2 ≤ u → u ≤ v → v ≤ length ds → needOf r (fromTo u v ds) ≤ B

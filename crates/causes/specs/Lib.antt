@@ -1,5 +1,6 @@
 -- The definitions that contracts cite, and their laws.
 pub mod Cause
 pub mod PeriodNeedLaws
+pub mod FoundLaws
 pub mod CauseLaws
 pub mod DiscardLaws

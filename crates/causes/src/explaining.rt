@@ -64,7 +64,7 @@ pub fn explain(trace: &[u16], rate: Rate, tariff: Tariff) -> ExplainAnswer
 // The cause of the depth that the depth call answers.
 fn cause_of(trace: &[u16], rate: Rate, tariff: Tariff, depth: Depth) -> Cause
     requires { ⌜ depthOf tariff (rate .0) (now trace) ≡ figures (depth .0) ⌝ }
-    ensures { λ r. ⌜ causeSays r ≡ causeOf (tariff .factor .p) (tariff .factor .q) (rate .0) (now (trace .entry)) (depth .0) ⌝ }
+    ensures { λ r. ⌜ causeSays r ≡ causeOf tariff (rate .0) (now (trace .entry)) (depth .0) ⌝ }
 {
     if depth.0 == 0 {
         return Cause::Nothing;

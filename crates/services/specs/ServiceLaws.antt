@@ -6,13 +6,15 @@ use native.Mathlib.Nat.{le-trans}
 use mathlib.Core.Path.{_≡_, subst}
 use mathlib.Core.List.{List}
 use lib.ListN.{length, length-append}
+use Rattle.terms.specs.declared.Tariff.{Tariff}
 use Rattle.terms.specs.Answer.{figures}
 use Rattle.terms.specs.AnswerLaws.{on-figures, then-found}
 use Rattle.terms.specs.Limits.{traceLimit}
 use Rattle.terms.specs.RangeRules.{BucketRange, PeriodsRange, TariffRange}
 use Rattle.depth.specs.Depth.{depthOf}
 use Rattle.causes.specs.Cause.{Explanation, SetBy, nothing, opening, stretch, explained}
-use Rattle.causes.specs.CauseLaws.{IsCause, asked, cause-true}
+use Rattle.causes.specs.CauseLaws.{IsCause, cause-true}
+use Rattle.causes.specs.FoundLaws.{asked}
 use Rattle.single.specs.declared.costs.Priced.{Priced}
 use Rattle.single.specs.CostLaws.{cost-le}
 use Rattle.single.specs.Single.{singleOf}
@@ -46,10 +48,10 @@ module _ (bs : List ℕ) (x : Priced) (e : singleFor bs ≡ figures x) where
   single-line-short = single-short (x .bucket) (x .cost) bucket-range single-cost
 
 -- A depth that is answered is in its range, and what sets it are periods of the trace; so its line is short.
-cause-short : (p q r : ℕ) (ds : List ℕ) (B : ℕ) → length ds ≤ traceLimit → (by : SetBy) → IsCause p q r ds B by → length (causeFields by) ≤ longestCause
-cause-short p q r ds B l nothing k = nothing-short
-cause-short p q r ds B l (opening v) k = opening-short v (le-trans (k .inside) l)
-cause-short p q r ds B l (stretch u v) k = stretch-short u v (le-trans (k .ordered) (le-trans (k .inside) l)) (le-trans (k .inside) l)
+cause-short : (t : Tariff) (r : ℕ) (ds : List ℕ) (B : ℕ) → length ds ≤ traceLimit → (by : SetBy) → IsCause t r ds B by → length (causeFields by) ≤ longestCause
+cause-short t r ds B l nothing k = nothing-short
+cause-short t r ds B l (opening v) k = opening-short v (le-trans (k .inside) l)
+cause-short t r ds B l (stretch u v) k = stretch-short u v (le-trans (k .ordered) (le-trans (k .inside) l)) (le-trans (k .inside) l)
 
 pub explained-line-short : (r : ℕ) (bs : List ℕ) (x : Explanation) → explainFor r bs ≡ figures x → length (explainedLine x) ≤ longestExplained
 explained-line-short r bs x e =
@@ -59,6 +61,6 @@ explained-line-short r bs x e =
     let d = on-figures (explained t r ds) (depthOf t r ds) (y .2) in
     let k = asked t r ds (d .1) in
     let by = explained t r ds (d .0) .cause in
-    let c : length (causeFields by) ≤ longestCause = cause-short _ _ r ds (d .0) (k .periods .few) by (cause-true t r ds (d .1)) in
+    let c : length (causeFields by) ≤ longestCause = cause-short t r ds (d .0) (k .periods .few) by (cause-true t r ds (d .1)) in
     subst (λ (z : Explanation). length (explainedLine z) ≤ longestExplained) (d .2)
     (omega (arith, length-append (depthFields (d .0) space) (causeFields by), front-short (d .0) (k .depths), c))

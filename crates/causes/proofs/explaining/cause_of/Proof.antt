@@ -8,9 +8,9 @@ use Rattle.terms.specs.Answer.{Answer, figureOr}
 use Rattle.terms.specs.Limits.{traceLimit}
 use Rattle.terms.specs.RangeRules.{FreshRange}
 use Rattle.bucket.specs.Laws.{start-le}
-use Rattle.bucket.specs.Step.{startOf}
-use Rattle.causes.specs.Cause.{stretch, openingEnd, stretchStart}
-use Rattle.causes.specs.CauseLaws.{Asked, Stretched, asked, nothing-at-0, opened, stretched}
+use Rattle.causes.specs.Cause.{stretch, openingEnd, startAt, stretchStart}
+use Rattle.causes.specs.CauseLaws.{nothing-at-0}
+use Rattle.causes.specs.FoundLaws.{Asked, Stretched, asked, opened, stretched}
 use Rattle.causes.proofs.explaining.cause_of.Statement.{statement}
 use Rattle.causes.proofs.explaining.cause_of.Tie as tie
 
@@ -25,7 +25,7 @@ ranges : (s : tie.Start) → Asked (s .args .tariff) (s .args .rate .0) (s .args
 ranges s = asked _ _ _ (s .pre)
 
 returns : tie.Need-returns
-returns c = sym (nothing-at-0 _ _ _ _ _ (c .if1 .taken))
+returns c = sym (nothing-at-0 _ _ _ _ (c .if1 .taken))
 
 -- past the first test
 above : (c : tie.Else1) → 1 ≤ start-of c .args .depth .0
@@ -38,7 +38,7 @@ fresh c =
 
 -- the opening's periods, past the second test none
 opening-found : (c : tie.After-opening-end) → let a = start-of (past (c .before)) .args in
-    c .opening-end .result ≡ figureOr (openingEnd (a .rate .0) (startOf (a .tariff .factor .p) (a .tariff .factor .q) (a .depth .0 - 1)) (a .trace .now)) 0
+    c .opening-end .result ≡ figureOr (openingEnd (a .rate .0) (startAt (a .tariff) (a .depth .0 - 1)) (a .trace .now)) 0
 opening-found c =
     let a = start-of (past (c .before)) .args in
     c .opening-end .ensures ∙ ap (λ (y : ℕ). figureOr (openingEnd (a .rate .0) y (a .trace .now)) 0) (c .before .starting-tokens .ensures)

@@ -1,10 +1,9 @@
 -- A refusal is the depth call's; a depth is answered with its cause.
-use Prim.Native.Nat.{ℕ}
 use mathlib.Core.Path.{_≡_, sym, ap, _∙_}
 use borrow.Author.Needs.{needs}
-use Rattle.terms.specs.Answer.{Answer, figures, onFigures}
+use Rattle.terms.specs.Answer.{figures, onFigures}
 use Rattle.depth.specs.Depth.{depthOf, depthSays}
-use Rattle.causes.specs.Cause.{Explanation, SetBy, explained}
+use Rattle.causes.specs.Cause.{SetBy, explained}
 use Rattle.causes.proofs.explaining.explain.Statement.{statement}
 use Rattle.causes.proofs.explaining.explain.Tie as tie
 

@@ -1,5 +1,5 @@
 -- After i turns no opening of i periods or fewer is short, and demands and tokens are those of the first i periods.
-use Prim.Native.Nat.{ℕ, suc, _+_, _-_, _*_, _≤_, _<_}
+use Prim.Native.Nat.{ℕ, _+_, _-_, _*_, _≤_, _<_}
 use native.Mathlib.Omega.{arith}
 use native.Mathlib.Nat.{mul-le-mul, mul-suc, sub-zero}
 use native.Mathlib.Numerals.{add-one}

@@ -9,7 +9,7 @@ use borrow.Author.Needs.{needs}
 use borrow.Author.Tests.{lt-ltb, le-ltb}
 use lib.ListN.{length, getD, take, drop}
 use lib.Seq.{drop-append-le, length-take-le, slice, slice-empty, take-suc}
-use Rattle.terms.specs.Answer.{Answer, figures, refused, figureOr}
+use Rattle.terms.specs.Answer.{Answer, figures, figureOr}
 use Rattle.depth.specs.declared.walk.Walk.{Walk}
 use Rattle.depth.specs.Depth.{firstFrom}
 use Rattle.depth.specs.SearchLaws.{from-failed, from-none, from-passed}

@@ -1,6 +1,6 @@
 -- The depth found, and its cause in the numbers; a refusal leaves these as they were.
 use Prim.Native.Nat.{ℕ}
-use mathlib.Core.Path.{_≡_, sym, ap, _∙_}
+use mathlib.Core.Path.{sym, ap, _∙_}
 use Rattle.causes.specs.Cause.{Explanation, explainSays}
 use Rattle.exports.specs.declared.explaining.CauseNumbers.{CauseNumbers}
 use Rattle.exports.specs.Answers.{causeNumbers}

@@ -2,7 +2,6 @@
 use mathlib.Core.Path.{_≡_, sym, ap}
 use Rattle.causes.specs.declared.explaining.Cause.{Cause}
 use Rattle.causes.specs.Cause.{causeSays}
-use Rattle.exports.specs.declared.explaining.CauseNumbers.{CauseNumbers}
 use Rattle.exports.specs.Answers.{causeNumbers}
 use borrow.Author.Needs.{needs}
 use Rattle.exports.proofs.explaining.numbers_of.Statement.{statement}

@@ -1,8 +1,7 @@
 -- Each case of the cause is stored by its own fields.
-use Prim.Native.Nat.{ℕ, _+_, _≤_}
-use mathlib.Core.Path.{_≡_, sym, ap, subst}
+use Prim.Native.Nat.{ℕ}
+use mathlib.Core.Path.{_≡_, sym, subst}
 use mathlib.Core.List.{List}
-use lib.ListN.{length}
 use Rattle.causes.specs.declared.explaining.Cause.{Cause}
 use Rattle.causes.specs.Cause.{causeSays}
 use Rattle.text.specs.PutLaws.{Puts, Room}
