@@ -140,7 +140,7 @@ table =
     ∷ record { given = onFigures depthRow (depthFromEnd printed 5 (8 ∷ 2 ∷ [])); paper = figures (pos 3 ∷ []) }
     ∷ record { given = onFigures depthRow (depthFromEnd empty 5 (2 ∷ 8 ∷ [])); paper = refused 7 }
     ∷ record { given = onFigures depthRow (depthFromEnd empty 5 (8 ∷ 2 ∷ [])); paper = figures (pos 3 ∷ []) }
-    -- 02, job 3: 4,8,2 at rates 0, 4, 5: depths 28, 8, 4, openings of 3, 2, 2; at 6, 7: 2, 1, stretch 2–2; at 8: nothing
+    -- 02, job 3: 4,8,2 at rates 0, 4, 5: depths 28, 8, 4, openings of 3, 2, 2; at 6, 7: 2, 1, stretch 2–2; at 8: 0
     ∷ record { given = onFigures explainRow (explainOf printed 0 case); paper = figures (pos 28 ∷ pos 1 ∷ pos 3 ∷ []) }
     ∷ record { given = onFigures explainRow (explainOf printed 4 case); paper = figures (pos 8 ∷ pos 1 ∷ pos 2 ∷ []) }
     ∷ record { given = onFigures explainRow (explainOf printed 5 case); paper = figures (pos 4 ∷ pos 1 ∷ pos 2 ∷ []) }
