@@ -1,5 +1,5 @@
 /*
- * Metqoraz, token bucket bookings, for programs in C: thirteen calls on numbers and lent memory.
+ * Metqoraz, token bucket bookings, for programs in C: fourteen calls on numbers and lent memory.
  *
  *     rt staticlib exports
  *     cc -Iinclude mine.c target/staticlib/libexports.a
@@ -110,6 +110,30 @@ uint64_t metqoraz_depth(const uint8_t *order, size_t order_len, MetqorazRate rat
  * answers 3, where metqoraz_depth answers 4.
  */
 uint64_t metqoraz_depth_from_end(const uint8_t *order, size_t order_len, MetqorazRate rate);
+
+/*
+ * What sets a depth: the periods that a depth one smaller falls short of. The need of some periods is their summed
+ * demand less the rate for each.
+ */
+enum {
+    METQORAZ_NOTHING = 0, /* no periods: the depth is 0 */
+    METQORAZ_OPENING = 1, /* from the first period on: the need is above the smaller depth's starting tokens */
+    METQORAZ_STRETCH = 2  /* from the second or a later one on: the need is above the smaller depth itself */
+};
+
+/*
+ * The depth that metqoraz_depth answers, with its cause and the first and last of the periods, counted from 1; for
+ * nothing they are 0 and 0. An opening goes before a stretch, then the least last period, then the least first one.
+ * Refuses 1 to 5 (the order), 5 (a rate above the rate cap), 7 (no depth inside the depth cap).
+ *
+ *     uint32_t cause, first, last;
+ *     metqoraz_explain(order, length, (MetqorazRate){5}, &cause, &first, &last)
+ *
+ * answers 4, with METQORAZ_OPENING, 1 and 2. At rate 6 it answers 2, with METQORAZ_STRETCH, 2 and 2; at rate 8 it
+ * answers 0, with METQORAZ_NOTHING, 0 and 0.
+ */
+uint64_t metqoraz_explain(const uint8_t *order, size_t order_len, MetqorazRate rate, uint32_t *cause, uint32_t *first,
+                          uint32_t *last);
 
 /*
  * The one bucket that carries an order's demands at least cost: its rate and depth; answers its cost.

@@ -46,11 +46,45 @@ static void kept(const char *call, const void *bytes, size_t count)
     }
 }
 
+static const char *cause_name(uint32_t cause)
+{
+    switch (cause) {
+    case METQORAZ_NOTHING:
+        return "nothing";
+    case METQORAZ_OPENING:
+        return "opening";
+    case METQORAZ_STRETCH:
+        return "stretch";
+    default:
+        return "no cause";
+    }
+}
+
+/* Depths with each cause, and one that is refused. */
+static void explained(const uint8_t *order, size_t length)
+{
+    static const uint32_t rates[3] = {5, 6, 8};
+    uint32_t cause, first, last;
+    for (size_t i = 0; i < 3; i++) {
+        say("explain", metqoraz_explain(order, length, (MetqorazRate){rates[i]}, &cause, &first, &last));
+        printf("  %s, first %u, last %u\n", cause_name(cause), first, last);
+    }
+
+    mark(&cause, sizeof cause);
+    mark(&first, sizeof first);
+    mark(&last, sizeof last);
+    say("explain, rate 4096", metqoraz_explain(order, length, (MetqorazRate){4096}, &cause, &first, &last));
+    kept("cause", &cause, sizeof cause);
+    kept("first", &first, sizeof first);
+    kept("last", &last, sizeof last);
+}
+
 /* The printed case: each call's answer, and all that it fills. */
 static void printed_case(const uint8_t *order, size_t length)
 {
     say("depth", metqoraz_depth(order, length, (MetqorazRate){6}));
     say("depth_from_end", metqoraz_depth_from_end(order, length, (MetqorazRate){5}));
+    explained(order, length);
 
     MetqorazRate rate;
     MetqorazDepth depth;
@@ -185,9 +219,11 @@ static void refused(const char *what, const uint8_t *order, size_t length)
 {
     MetqorazRate rate;
     MetqorazDepth depth;
+    uint32_t cause[3];
     int64_t spare;
     uint64_t excess;
     uint8_t bytes[METQORAZ_LONGEST_SHEET];
+    mark(cause, sizeof cause);
     mark(&rate, sizeof rate);
     mark(&depth, sizeof depth);
     mark(&spare, sizeof spare);
@@ -196,6 +232,7 @@ static void refused(const char *what, const uint8_t *order, size_t length)
     printf("%s\n", what);
     say("  depth", metqoraz_depth(order, length, (MetqorazRate){0}));
     say("  depth_from_end", metqoraz_depth_from_end(order, length, (MetqorazRate){0}));
+    say("  explain", metqoraz_explain(order, length, (MetqorazRate){0}, &cause[0], &cause[1], &cause[2]));
     say("  single", metqoraz_single(order, length, &rate, &depth));
     say("  single_line", metqoraz_single_line(order, length, bytes, sizeof bytes));
     say("  trial", metqoraz_trial(order, length, (MetqorazRate){4096}, (MetqorazDepth){0}, &spare));
@@ -205,6 +242,7 @@ static void refused(const char *what, const uint8_t *order, size_t length)
     say("  book", metqoraz_book(order, length, bytes, sizeof bytes));
     say("  check", metqoraz_check(order, length, one_bucket, sizeof one_bucket, &excess));
     say("  sheet", metqoraz_sheet(order, length, bytes, sizeof bytes));
+    kept("  cause", cause, sizeof cause);
     kept("  rate", &rate, sizeof rate);
     kept("  depth", &depth, sizeof depth);
     kept("  spare", &spare, sizeof spare);

@@ -40,6 +40,14 @@ extern "C" {
     ) -> u64;
     fn metqoraz_depth(order: *const u8, order_len: usize, rate: Rate) -> u64;
     fn metqoraz_depth_from_end(order: *const u8, order_len: usize, rate: Rate) -> u64;
+    fn metqoraz_explain(
+        order: *const u8,
+        order_len: usize,
+        rate: Rate,
+        cause: *mut u32,
+        first: *mut u32,
+        last: *mut u32,
+    ) -> u64;
     fn metqoraz_single(order: *const u8, order_len: usize, rate: *mut Rate, depth: *mut Depth) -> u64;
     fn metqoraz_single_line(order: *const u8, order_len: usize, text: *mut u8, text_len: usize) -> u64;
     fn metqoraz_trial(order: *const u8, order_len: usize, rate: Rate, depth: Depth, spare: *mut i64) -> u64;
@@ -136,6 +144,44 @@ pub fn depth(order: &[u8], rate: Rate) -> Answer<Depth> {
 pub fn depth_from_end(order: &[u8], rate: Rate) -> Answer<Depth> {
     // SAFETY: as in `order_into`.
     answer(unsafe { metqoraz_depth_from_end(order.as_ptr(), order.len(), rate) }).map(|depth| Depth(depth as u32))
+}
+
+/// What sets a depth: the periods, counted from 1, that a depth one smaller falls short of.
+#[derive(Clone, Copy, Debug, PartialEq, Eq)]
+pub enum Cause {
+    /// The depth is 0.
+    Nothing,
+    /// The first periods, so many of them, need more than the smaller depth's starting tokens.
+    Opening { periods: u32 },
+    /// The periods from one to another, the second of the trace or later, need more than the smaller depth itself.
+    Stretch { first: u32, last: u32 },
+}
+
+/// A depth with its cause.
+#[derive(Clone, Copy, Debug, PartialEq, Eq)]
+pub struct Explained {
+    pub depth: Depth,
+    pub cause: Cause,
+}
+
+/// Puts the cause of the depth at a rate (0 nothing, 1 an opening, 2 a stretch) with its first and last period (0 and 0
+/// for nothing) into the numbers lent; answers the depth.
+pub fn explain_into(order: &[u8], rate: Rate, cause: &mut u32, first: &mut u32, last: &mut u32) -> Answer<Depth> {
+    // SAFETY: as in `order_into`; the numbers are borrowed apart from each other.
+    let code = unsafe { metqoraz_explain(order.as_ptr(), order.len(), rate, cause, first, last) };
+    answer(code).map(|depth| Depth(depth as u32))
+}
+
+/// The smallest depth that carries an order's trace at a rate, with its cause.
+pub fn explain(order: &[u8], rate: Rate) -> Answer<Explained> {
+    let (mut number, mut first, mut last) = (0, 0, 0);
+    let depth = explain_into(order, rate, &mut number, &mut first, &mut last)?;
+    let cause = match number {
+        0 => Cause::Nothing,
+        1 => Cause::Opening { periods: last },
+        _ => Cause::Stretch { first, last },
+    };
+    Ok(Explained { depth, cause })
 }
 
 /// A bucket and what it costs.

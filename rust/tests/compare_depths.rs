@@ -4,16 +4,15 @@
 mod shared;
 
 use metqoraz::calls::{self, Depth, Rate};
-use metqoraz::inputs::{any_tariff, for_small_depths, Seed};
+use metqoraz::inputs::{any_tariff, for_small_depths};
 use metqoraz::paper::depth::{depth_at, depth_by_trying};
 use metqoraz::paper::from_end::{depth_by_needs, depth_from_end, depth_line, turned};
-use metqoraz::paper::order::read_order;
 use metqoraz::paper::terms::{Tariff, DEPTH_MAX, RATE_MAX};
 use metqoraz::paper::walk::depth_by_walk;
 use metqoraz::paper::{Answer, NO_PLAN};
 use shared::{
-    any_file, any_order, any_trace, compare_depths, file_of, file_with, for_seeds, printed, printed_case, said, same,
-    small_order, Tally,
+    any_file, any_order, any_rate, any_rate_for, any_trace, balanced, compare_depths, every_change, file_of, file_with,
+    for_seeds, for_the_ends, printed, printed_case, said, same, small_order, Tally,
 };
 use std::cmp::Ordering;
 
@@ -48,29 +47,6 @@ fn compare(file: &[u8], rate: u32) -> Outcome {
             Refused(forward)
         }
     }
-}
-
-/// A rate inside the cap, at it, just above it, or any.
-fn any_rate(cap: u32, seed: &mut Seed) -> u32 {
-    let (inside, any) = (seed.between(0, cap), seed.bits() as u32);
-    seed.pick([0, inside, inside, cap, cap.saturating_add(1), any])
-}
-
-/// The same for the order in a file, whole or damaged.
-fn any_rate_for(file: &[u8], seed: &mut Seed) -> u32 {
-    any_rate(read_order(file).map_or(0, |(_, tariff)| tariff.rate_cap), seed)
-}
-
-/// An order and a rate about the mean of its demands, with wide caps and a fresh bucket that is half full at the most:
-/// the depth turns on which demands come first.
-fn balanced(longest: u32, seed: &mut Seed) -> (Tariff, Vec<u16>, u32) {
-    let tariff = any_tariff(seed);
-    let depth_cap = seed.pick([DEPTH_MAX, DEPTH_MAX, 50_000]);
-    let tariff = Tariff { p: tariff.p / 2, rate_cap: RATE_MAX, depth_cap, ..tariff };
-    let limit = 1 + seed.of_any_size(2 * RATE_MAX);
-    let demands: Vec<u16> = any_trace(longest, seed).iter().map(|&demand| (u32::from(demand) % limit) as u16).collect();
-    let mean = demands.iter().copied().map(u32::from).sum::<u32>() / demands.len() as u32;
-    (tariff, demands, seed.between(mean / 2, mean * 3 / 2).min(RATE_MAX))
 }
 
 #[test]
@@ -160,37 +136,10 @@ fn palindromes_have_one_depth() {
     tally.expect(&[Equal, Refused(NO_PLAN)], 500);
 }
 
-/// Every list of one demand and, first or last, another, at the ends of their ranges.
-fn lists_at_the_ends() -> Vec<Vec<u16>> {
-    let demands = [0, 1, 4_095, 4_096, u16::MAX];
-    let pairs = demands.into_iter().flat_map(|demand| demands.map(|other| (demand, other)));
-    let lists = pairs.flat_map(|(demand, other)| {
-        [1, 2, 511, 512].map(|periods| {
-            let mut list = vec![demand; periods];
-            list[0] = other;
-            list
-        })
-    });
-    lists.flat_map(|list| [turned(&list), list]).collect()
-}
-
 #[test]
 fn figures_at_the_ends_of_their_ranges_are_alike() {
     let tally = Tally::default();
-    let caps = [0, 1, RATE_MAX].into_iter().flat_map(|rate| [0, 1, DEPTH_MAX].map(|depth| (rate, depth)));
-    let caps: Vec<(u32, u32)> = caps.collect();
-    let lists = lists_at_the_ends();
-    for (p, q) in [(0, 1), (1, 1), (0, 1_000), (1, 1_000), (999, 1_000), (1_000, 1_000)] {
-        for &(rate_cap, depth_cap) in &caps {
-            let tariff = Tariff { p, q, rate_cap, depth_cap, ..printed_case().0 };
-            for list in &lists {
-                let file = file_of(&(tariff, list.clone()));
-                for rate in [0, rate_cap, rate_cap + 1, u32::MAX] {
-                    tally.meet(compare(&file, rate));
-                }
-            }
-        }
-    }
+    for_the_ends(|file, rate| tally.meet(compare(file, rate)));
     tally.expect(&[&FOUND[..], &[Refused(5), Refused(NO_PLAN)]].concat(), 40);
 }
 
@@ -230,19 +179,9 @@ fn every_t_is_weighed_alike() {
 fn every_byte_of_an_order_counts_alike() {
     let tally = Tally::default();
     for_seeds(510_000, 100, |seed| {
-        let (tariff, demands) = small_order(3, seed);
-        let file = file_of(&(tariff, demands));
-        for at in 0..file.len() {
-            for flip in [1, 2, 4, 8, 16, 32, 64, 128] {
-                let mut bytes = file.clone();
-                bytes[at] ^= flip;
-                tally.meet(compare(&bytes, seed.between(0, 9)));
-            }
-        }
-        for length in 0..file.len() + 3 {
-            let mut bytes = file.clone();
-            bytes.resize(length, 0);
-            tally.meet(compare(&bytes, 0));
+        let file = file_of(&small_order(3, seed));
+        for bytes in every_change(&file) {
+            tally.meet(compare(&bytes, seed.between(0, 9)));
         }
     });
     tally.expect(&[&FOUND[..], &READING, &[Refused(NO_PLAN)]].concat(), 100);

@@ -1,11 +1,13 @@
 //! Tests of the package itself: the paper's lettered figures, every quick way against the plain one, both files, the
-//! meter, the check of a plan, the depth from the end and the refusals. A failing random test names its seed.
+//! meter, the check of a plan, the depth from the end, the causes of a depth and the refusals. A failing random test
+//! names its seed.
 
 use metqoraz::inputs::{
     any_tariff, bucket, corner_tariff, damaged, for_small_depths, random_tariff, small_tariff, trace,
 };
 use metqoraz::inputs::{Seed, Shape, SHAPES};
 use metqoraz::paper::bucket::{carries, trial, Trial};
+use metqoraz::paper::causes::{explain, explain_line, Cause, Explained};
 use metqoraz::paper::check::{check, check_by_trying, check_line, two_files, Verdict};
 use metqoraz::paper::depth::{depth_at, depth_by_trying};
 use metqoraz::paper::from_end::{depth_by_needs, depth_from_end, depth_line, turned};
@@ -424,13 +426,14 @@ fn plan_writing_refusals() {
 }
 
 /// Every call that takes a trace and a tariff, with its figures left out.
-fn answers(trace: &[u16], tariff: &Tariff) -> [Answer<()>; 11] {
+fn answers(trace: &[u16], tariff: &Tariff) -> [Answer<()>; 12] {
     [
         depth_at(trace, 0, tariff).map(drop),
         depth_by_trying(trace, 0, tariff).map(drop),
         depth_by_walk(trace, 0, tariff).map(drop),
         depth_from_end(trace, 0, tariff).map(drop),
         depth_by_needs(trace, 0, tariff).map(drop),
+        explain(trace, 0, tariff).map(drop),
         single(trace, tariff).map(drop),
         single_by_walk(trace, tariff).map(drop),
         single_by_trying(trace, tariff).map(drop),
@@ -448,13 +451,13 @@ fn trace_and_tariff_refusals() {
         let mut figures = small.figures();
         figures[place] = figure;
         let tariff = Tariff::from_figures(figures);
-        assert_eq!(answers(&[0; 512], &tariff), [Err(5); 11], "{tariff:?}");
-        assert_eq!(answers(&[0; 513], &tariff), [Err(3); 11]);
-        assert_eq!(answers(&[], &tariff), [Err(3); 11]);
+        assert_eq!(answers(&[0; 512], &tariff), [Err(5); 12], "{tariff:?}");
+        assert_eq!(answers(&[0; 513], &tariff), [Err(3); 12]);
+        assert_eq!(answers(&[], &tariff), [Err(3); 12]);
     }
-    assert_eq!(answers(&[0; 512], &small), [Ok(()); 11]);
-    assert_eq!(answers(&[0; 513], &small), [Err(3); 11]);
-    assert_eq!(answers(&[9], &small)[..10], [Err(7); 10]);
+    assert_eq!(answers(&[0; 512], &small), [Ok(()); 12]);
+    assert_eq!(answers(&[0; 513], &small), [Err(3); 12]);
+    assert_eq!(answers(&[9], &small)[..11], [Err(7); 11]);
 }
 
 #[test]
@@ -719,4 +722,73 @@ fn lines_of_a_depth() {
     assert_eq!([lines(&[], 5), lines(&order[..53], 5)], [["refused 1\n"; 2], ["refused 4\n"; 2]]);
     let empty = write_order(&Tariff { p: 0, q: 1, ..TARIFF }, &[8, 2]).unwrap();
     assert_eq!(lines(&empty, 5), ["refused 7\n", "depth 0.003\n"]);
+}
+
+// The causes of a depth (02, job 3).
+
+const NOTHING: Answer<Explained> = Ok(Explained { depth: 0, cause: Cause::Nothing });
+
+const fn opening(depth: u32, v: usize) -> Answer<Explained> {
+    Ok(Explained { depth, cause: Cause::Opening { v } })
+}
+
+const fn stretch(depth: u32, u: usize, v: usize) -> Answer<Explained> {
+    Ok(Explained { depth, cause: Cause::Stretch { u, v } })
+}
+
+#[test]
+fn figures_of_causes() {
+    let openings = [0, 4, 5].map(|rate| explain(&TRACE, rate, &TARIFF));
+    assert_eq!(openings, [opening(28, 3), opening(8, 2), opening(4, 2)]);
+    let rest = [6, 7, 8].map(|rate| explain(&TRACE, rate, &TARIFF));
+    assert_eq!(rest, [stretch(2, 2, 2), stretch(1, 2, 2), NOTHING]);
+    let full = |trace: &[u16]| explain(trace, 5, &Tariff { p: 1, q: 1, ..TARIFF });
+    assert_eq!([full(&[0, 5, 7]), full(&[0, 5, 5, 7, 7])], [stretch(2, 2, 3), stretch(4, 2, 5)]);
+    assert_eq!([full(&[1, 7, 7, 1, 9]), full(&[5, 5, 7])], [stretch(4, 2, 3), opening(2, 3)]);
+    assert_eq!([full(&[7, 5, 5]), full(&[7, 3, 7])], [opening(2, 1); 2], "equal needs");
+    let empty = |trace: &[u16]| explain(trace, 5, &Tariff { p: 0, q: 1, ..TARIFF });
+    assert_eq!([empty(&[2, 8]), empty(&[8, 2])], [stretch(3, 2, 2), Err(7)]);
+}
+
+/// What a cause says, against the bucket of a depth one smaller: fresh, it first discards in the last period of the
+/// opening or the stretch; and it does not carry the stretch even if it is full where that begins.
+fn holds_of_the_bucket(trace: &[u16], rate: u32, tariff: &Tariff) {
+    let explained = explain(trace, rate, tariff);
+    assert_eq!(explained.map(|explained| explained.depth), depth_at(trace, rate, tariff));
+    let Ok(Explained { depth, cause }) = explained else { return };
+    let smaller = pair(rate, depth.saturating_sub(1));
+    let carried = |periods: usize| periods == 0 || carries(smaller, tariff.p, tariff.q, &trace[..periods]);
+    match cause {
+        Cause::Nothing => assert_eq!(depth, 0),
+        Cause::Opening { v } => assert!(depth > 0 && tariff.p > 0 && carried(v - 1) && !carried(v)),
+        Cause::Stretch { u, v } => {
+            assert!(depth > 0 && u >= 2 && carried(v - 1) && !carried(v));
+            assert!(!carries(smaller, 1, 1, &trace[u - 1..v]));
+        }
+    }
+}
+
+#[test]
+fn every_small_cause_holds_of_the_bucket() {
+    for_small_depths(holds_of_the_bucket);
+}
+
+#[test]
+fn causes_hold_of_the_bucket() {
+    for_seeds(20_000, 20_000, |seed| {
+        let (tariff, trace) = (any_tariff(seed), any_trace(64, seed));
+        for rate in [0, seed.between(0, tariff.rate_cap), seed.of_any_size(tariff.rate_cap)] {
+            holds_of_the_bucket(&trace, rate, &tariff);
+        }
+    });
+}
+
+#[test]
+fn lines_of_a_cause() {
+    let order = write_order(&TARIFF, &TRACE).unwrap();
+    let lines = ["depth 0.004 opening 2\n", "depth 0.002 stretch 2 2\n", "depth 0.000 nothing\n", "refused 5\n"];
+    assert_eq!([5, 6, 8, 4_096].map(|rate| explain_line(&order, rate)), lines);
+    assert_eq!([explain_line(&[], 5), explain_line(&order[..53], 5)], ["refused 1\n", "refused 4\n"]);
+    let empty = write_order(&Tariff { p: 0, q: 1, ..TARIFF }, &[8, 2]).unwrap();
+    assert_eq!(explain_line(&empty, 5), "refused 7\n");
 }

@@ -1,6 +1,6 @@
--- What sets a depth (02, job 3): nothing, an opening of v periods, or a stretch from period u to period v. "Opening" and
--- "stretch" are document 02's words; periods are counted from 1. That a cause is always found for a depth above 0, and
--- what it says of the trace and of the bucket, are laws (`CauseLaws`).
+-- What sets a depth (02, job 3): nothing, an opening of v periods, or a stretch from period u to period v. "Opening"
+-- and "stretch" are document 02's words; periods are counted from 1. That a cause is always found for a depth above 0,
+-- and what it says of the trace and of the bucket, are laws (`CauseLaws`, `DiscardLaws`).
 -- Assumes nothing.
 use Prim.Native.Nat.{ℕ, _-_, _*_}
 use mathlib.Core.Bool.{Bool, true, false, cond}

@@ -3,7 +3,7 @@
 -- Assumes nothing.
 use Prim.Native.Nat.{ℕ, zero, suc, _+_, _-_, _≤_, _<_}
 use native.Mathlib.Omega.{arith}
-use native.Mathlib.Nat.{le-trans}
+use native.Mathlib.Nat.{div-le-of-le-mul, le-trans}
 use mathlib.Core.Path.{_≡_, refl, sym, ap, subst, _∙_}
 use mathlib.Core.Bool.{Bool, true, false, cond}
 use mathlib.Core.List.{List}
@@ -14,21 +14,20 @@ use lib.Seq.{drop-at, length-take-le, slice, take-add}
 use Rattle.terms.specs.declared.Tariff.{Tariff}
 use Rattle.terms.specs.Answer.{Answer, figures, refused, figureOr, weigh}
 use Rattle.terms.specs.AnswerLaws.{weigh-figures}
-use Rattle.terms.specs.Bools.{not-true-false, true-false}
+use Rattle.terms.specs.Bools.{true-false}
 use Rattle.terms.specs.Limits.{depthLimit}
 use Rattle.terms.specs.RangeLaws.{periods-range}
 use Rattle.terms.specs.RangeRules.{PeriodsRange}
 use Rattle.terms.specs.Ranges.{periodsOk}
 use Rattle.bucket.specs.Step.{startOf}
-use Rattle.bucket.specs.Trace.{carries, carriesFrom}
 use Rattle.depth.specs.Depth.{depthOf, rateOk, tariffDepth}
 use Rattle.depth.specs.DepthLaws.{depth-found}
 use Rattle.depth.specs.Need.{needBefore}
-use Rattle.depth.specs.NeedLaws.{Meets, carried-meets, depth-meets-least}
+use Rattle.depth.specs.NeedLaws.{Meets, depth-meets, depth-meets-least}
 use Rattle.depth.specs.SearchLaws.{FirstFrom, IsFirstFrom, NoneFrom, from-is}
 use Rattle.depth.specs.WalkedLaws.{RateRange, rate-range}
 use Rattle.causes.specs.Cause.{SetBy, nothing, opening, stretch, fromTo, needOf, short, isFound, openingEnd, stretchStart, stretchEnd, shortOpening, shortStretch, causeOf}
-use Rattle.causes.specs.PeriodNeedLaws.{all-needed, fronts-met}
+use Rattle.causes.specs.PeriodNeedLaws.{front-need, fronts-met}
 
 -- ---- What is true of a cause, y being the starting tokens of depth C
 
@@ -81,11 +80,11 @@ module _ (r : ℕ) (ds : List ℕ) where
       go (refused n) k e = λ u h m. met C u v (k .1 u h (omega arith))
 
   -- Periods n + 1 to n + m.
-  part : (n m : ℕ) → n ≤ length ds → slice n (n + m) ds ≡ take m (drop n ds)
+  pub part : (n m : ℕ) → n ≤ length ds → slice n (n + m) ds ≡ take m (drop n ds)
   part n m h = ap (drop n) (take-add n m ds) ∙ drop-at (take n ds) (take m (drop n ds)) n (length-take-le n ds h)
 
   -- A bucket that no opening and no stretch is short for meets the needs before every period.
-  all-met : (y C : ℕ) → OpeningsMet r y ds → ((w : ℕ) → 2 ≤ w → w ≤ length ds → StretchesMet r C ds w) → Meets r C y ds
+  pub all-met : (y C : ℕ) → OpeningsMet r y ds → ((w : ℕ) → 2 ≤ w → w ≤ length ds → StretchesMet r C ds w) → Meets r C y ds
   all-met y C openings stretches = record { first = fronts-met r y ds openings; later = later }
     where
       later : (n : ℕ) → needBefore r (drop (suc n) ds) ≤ C
@@ -113,6 +112,10 @@ asked t r ds e =
     let n = weigh-figures (periodsOk (length ds)) 3 (weigh (rateOk t r) 5 (tariffDepth t r ds)) e in
     let k = rate-range t r (weigh-figures (rateOk t r) 5 (tariffDepth t r ds) (n .1) .0) in
     record { periods = periods-range _ (n .0); rate = k; depths = le-trans (depth-found t r ds e .within) (k .tariff .depth-caps) }
+
+start-empty : (q B : ℕ) → startOf 0 q B ≤ 0
+unfolding startOf
+start-empty q B = div-le-of-le-mul q (omega arith)
 
 -- ---- What the searches find for a depth above 0
 
@@ -238,16 +241,9 @@ module _ (t : Tariff) (r : ℕ) (ds : List ℕ) {B : ℕ} (e : depthOf t r ds �
   pub cause-found : cause ≡ nothing → B ≡ 0
   cause-found h = subst (IsCause (t .factor .p) (t .factor .q) r ds B) h cause-true
 
--- ---- In the bucket
-
--- Tokens that fall short of the need of some periods do not carry them, in a bucket of any depth.
-pub short-discards : (r B y : ℕ) (es : List ℕ) → y < needOf r es → carriesFrom r B y es ≡ false
-short-discards r B y es h = not-true-false _ (λ e. omega (arith, carried-meets r B y es e .first, all-needed r es))
-
--- So a depth one smaller, fresh, does not carry the opening that is named …
-pub opening-discards : (p q r : ℕ) (ds : List ℕ) (B v : ℕ) → IsCause p q r ds B (opening v) → carries p q r (B - 1) (fromTo 1 v ds) ≡ false
-opening-discards p q r ds B v k = short-discards r (B - 1) _ _ (k .short-of)
-
--- … and however full it is, it does not carry the stretch.
-pub stretch-discards : (p q r : ℕ) (ds : List ℕ) (B u v : ℕ) → IsCause p q r ds B (stretch u v) → (y : ℕ) → y ≤ B - 1 → carriesFrom r (B - 1) y (fromTo u v ds) ≡ false
-stretch-discards p q r ds B u v k y l = short-discards r (B - 1) y _ (omega (arith, k .short-of))
+  -- Of buckets that start empty no opening is named: the depth that is answered meets the need of every opening.
+  pub empty-not-opening : t .factor .p ≡ 0 → (v : ℕ) → cause ≡ opening v → ⊥
+  empty-not-opening z v h =
+      let k : OpeningShort r (startOf (t .factor .p) (t .factor .q) (B - 1)) ds v = subst (IsCause (t .factor .p) (t .factor .q) r ds B) h cause-true in
+      let n : needBefore r ds ≤ startOf 0 (t .factor .q) B = subst (λ (p : ℕ). needBefore r ds ≤ startOf p (t .factor .q) B) z (depth-meets t r ds e .first) in
+      omega (arith, k .short-of, front-need r v ds, n, start-empty (t .factor .q) B)

@@ -2,3 +2,4 @@
 pub mod Cause
 pub mod PeriodNeedLaws
 pub mod CauseLaws
+pub mod DiscardLaws

@@ -1,6 +1,6 @@
 -- The need of periods against the needs of the bucket and of the walk. What must be held before a trace (`needBefore`,
--- by which a bucket carries it) is never below the trace's need, and it is the need of some of its first periods. A
--- walk's ending is never below the need of its last periods, however many, and it is that of some of them.
+-- by which a bucket carries it) is never below the need of its first periods, however many, and it is that of some of
+-- them. A walk's ending is the same for its last periods.
 -- Assumes nothing.
 use Prim.Native.Nat.{ℕ, zero, suc, _+_, _-_, _*_, _≤_, _<_}
 use native.Mathlib.Omega.{arith}
@@ -12,7 +12,7 @@ use mathlib.Core.Logic.{_⊎_, inl, inr, ⊎-elim}
 use borrow.Author.Tests.{leb-true, leb-false, ltb-true, ltb-false, lt-ltb, le-ltb}
 use lib.Dec.{leb, ltb}
 use lib.ListN.{length, take, drop, drop-of-length-le}
-use lib.Seq.{drop-drop, length-slice, slice}
+use lib.Seq.{drop-drop, length-slice, slice, take-length}
 use Rattle.terms.specs.Answer.{Answer, figures, refused}
 use Rattle.terms.specs.Limits.{demandLimit}
 use Rattle.terms.specs.Records.{total}
@@ -46,10 +46,14 @@ none-needed r = omega (arith, mul-zero r)
 
 -- ---- First periods
 
-pub all-needed : (r : ℕ) (ds : List ℕ) → needOf r ds ≤ needBefore r ds
+pub front-need : (r n : ℕ) (ds : List ℕ) → needOf r (take n ds) ≤ needBefore r ds
 unfolding needOf needBefore total
-all-needed r [] = omega arith
-all-needed r (d ∷ ds) = omega (arith, all-needed r ds, mul-suc r (length ds))
+front-need r zero ds = omega arith
+front-need r (suc n) [] = omega arith
+front-need r (suc n) (d ∷ ds) = omega (arith, front-need r n ds, mul-suc r (length (take n ds)))
+
+pub all-needed : (r : ℕ) (ds : List ℕ) → needOf r ds ≤ needBefore r ds
+all-needed r ds = subst (λ (es : List ℕ). needOf r es ≤ needBefore r ds) (take-length ds) (front-need r (length ds) ds)
 
 -- Some of them, all within the trace.
 record FrontNeeds (r : ℕ) (ds : List ℕ) (b : ℕ) : Type 0 where
@@ -155,10 +159,14 @@ module _ (r C : ℕ) (ds : List ℕ) (v : ℕ) (l : v ≤ length ds) where
 
 -- ---- Sums
 
+pub demand-both : (ds es : List ℕ) → demandOf (ds ++ es) ≡ demandOf ds + demandOf es
+unfolding total
+demand-both [] es = omega arith
+demand-both (d ∷ ds) es = omega (arith, demand-both ds es)
+
 pub demand-more : (ds : List ℕ) (d : ℕ) → demandOf (ds ++ (d ∷ [])) ≡ demandOf ds + d
 unfolding total
-demand-more [] d = omega arith
-demand-more (e ∷ ds) d = omega (arith, demand-more ds d)
+demand-more ds d = omega (arith, demand-both ds (d ∷ []))
 
 pub demand-le : (ds : List ℕ) → Demands ds → demandOf ds ≤ demandLimit * length ds
 unfolding total

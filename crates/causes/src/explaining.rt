@@ -73,7 +73,8 @@ fn cause_of(trace: &[u16], rate: Rate, tariff: Tariff, depth: Depth) -> Cause
         rate,
         depth: Depth(depth.0 - 1),
     };
-    let periods = opening_end(trace, rate, starting_tokens(smaller, tariff.factor));
+    let tokens = starting_tokens(smaller, tariff.factor);
+    let periods = opening_end(trace, rate, tokens);
     if periods != 0 {
         return Cause::Opening(Opening {
             periods: periods as u32,

@@ -55,7 +55,7 @@ pub fn stretch_end(trace: &[u16], bucket: Bucket) -> usize
 pub fn stretch_start(trace: &[u16], bucket: Bucket, last: usize) -> usize
     requires { ⌜ PeriodsRange (length (now trace)) ⌝ }
     requires { ⌜ BucketRange bucket ⌝ }
-    requires { ⌜ PeriodsRange last ⌝ }
+    requires { ⌜ 1 ≤ last ⌝ }
     requires { ⌜ last ≤ length (now trace) ⌝ }
     ensures { λ r. ⌜ r ≡ figureOr (stretchStart (bucket .rate .0) (bucket .depth .0) (now (trace .entry)) last) last ⌝ }
 {

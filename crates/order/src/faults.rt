@@ -1,8 +1,8 @@
 // What is wrong with a text, in one line on standard error: where, about which figure, its word where it
 // has one, why, and the refusal's number.
 use libc::STDERR_FILENO;
-use order_text::Reason;
 use order_text::Fault;
+use order_text::Reason;
 use order_text::refusal_of;
 use order_text::word_around;
 use terms::Refusal;

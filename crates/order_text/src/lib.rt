@@ -9,8 +9,8 @@ mod scan;
 mod typed_orders;
 mod words;
 
-pub use faults::Reason;
 pub use faults::Fault;
+pub use faults::Reason;
 pub use faults::refusal_of;
 pub use typed_orders::TextAnswer;
 pub use typed_orders::order_of_text;

@@ -3,8 +3,8 @@
 use crate::bytes::ends_figure;
 use crate::bytes::ends_line;
 use crate::bytes::mark_length;
-use crate::faults::Reason;
 use crate::faults::Fault;
+use crate::faults::Reason;
 use typed_figures::digits::Push;
 use typed_figures::digits::is_digit;
 use typed_figures::digits::push_digit;

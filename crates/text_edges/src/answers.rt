@@ -1,6 +1,6 @@
 // One text: what it shows, and what the call answers.
-use order_text::Reason;
 use order_text::Fault;
+use order_text::Reason;
 use order_text::TextAnswer;
 use order_text::order_of_text;
 use order_text::refusal_of;

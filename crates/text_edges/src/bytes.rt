@@ -3,8 +3,8 @@
 use crate::answers::print;
 use cases::PLAIN_ROOM;
 use cases::plain_text;
-use order_text::Reason;
 use order_text::Fault;
+use order_text::Reason;
 use order_text::TextAnswer;
 use order_text::order_of_text;
 use samples::file_bytes::FILE_ROOM;

@@ -94,12 +94,15 @@ impl Case {
         plain / product
     }
 
-    /// A call takes less than a microsecond, so a thousand are timed together.
-    fn from_end_against_forward(&self, rate: u32) -> f64 {
-        let answered = |call: fn(&[u8], Rate) -> calls::Answer<Depth>| call(black_box(&self.order), Rate(rate)).is_ok();
-        let thousand = |call| (0..1_000).filter(|_| answered(call)).count();
-        let (from_end, forward) = in_turns(|| thousand(calls::depth_from_end), || thousand(calls::depth));
-        from_end / forward
+    /// A call at a rate against the depth at that rate. It takes some microseconds at the most, so a thousand are timed
+    /// together.
+    fn against_depth<T>(&self, rate: u32, call: fn(&[u8], Rate) -> calls::Answer<T>) -> f64 {
+        let (call, depth) = in_turns(|| self.thousand(rate, call), || self.thousand(rate, calls::depth));
+        call / depth
+    }
+
+    fn thousand<T>(&self, rate: u32, call: fn(&[u8], Rate) -> calls::Answer<T>) -> usize {
+        (0..1_000).filter(|_| call(black_box(&self.order), Rate(rate)).is_ok()).count()
     }
 }
 
@@ -136,15 +139,21 @@ fn ratio_tables() {
     table("Single: plain / product", &[100_000], 1, Case::single_against_plain);
 }
 
-/// The depth from the end against the forward one, by the rate. Prices and fee have no part in it.
-fn depth_table() {
+/// A table of ratios by the rate. Prices and fee have no part in it.
+fn rate_table(title: &str, ratio: impl Fn(&Case, u32) -> f64) {
     let columns = RATES.map(|rate| format!("rate {}", grouped(rate))).join(" | ");
-    println!("\n### Depth from the end / depth, T = 512\n\n| trace | {columns} |\n|---|---|---|---|---|---|");
+    println!("\n### {title}, T = 512\n\n| trace | {columns} |\n|---|---|---|---|---|---|");
     for shape in SHAPES {
         let case = case(shape, 512, (2, 1), 0, 4_095);
-        let cells = RATES.map(|rate| format!("{:.2}", case.from_end_against_forward(rate))).join(" | ");
+        let cells = RATES.map(|rate| format!("{:.2}", ratio(&case, rate))).join(" | ");
         println!("| {shape:?} | {cells} |");
     }
+}
+
+/// The depth from the end and the depth with its cause, against the depth.
+fn depth_tables() {
+    rate_table("Depth from the end / depth", |case, rate| case.against_depth(rate, calls::depth_from_end));
+    rate_table("Depth with its cause / depth", |case, rate| case.against_depth(rate, calls::explain));
 }
 
 /// How the product's time and the plain programme's grow with the trace and with the rate cap.
@@ -177,6 +186,6 @@ fn growth<S: Copy>(sizes: [S; 4], of: impl Fn(Shape, (u32, u32), S) -> Case) {
 
 fn main() {
     ratio_tables();
-    depth_table();
+    depth_tables();
     growth_tables();
 }

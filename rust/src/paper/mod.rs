@@ -3,6 +3,7 @@
 //! `depth_by_needs`, `series_plain`) are compared with those by the tests.
 
 pub mod bucket;
+pub mod causes;
 pub mod check;
 pub mod depth;
 pub mod from_end;

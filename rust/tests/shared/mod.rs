@@ -1,5 +1,5 @@
-//! What the comparisons share: runs over seeds, orders of many kinds, both depth calls, what is lent to a call, and
-//! what a program prints.
+//! What the comparisons share: runs over seeds, orders and rates of many kinds, both depth calls, what is lent to a
+//! call, and what a program prints.
 
 // Each test program uses its own part of this.
 #![allow(dead_code)]
@@ -9,7 +9,7 @@ use metqoraz::inputs::{any_tariff, corner_tariff, damaged, small_tariff, trace, 
 use metqoraz::paper::depth::depth_at;
 use metqoraz::paper::from_end::{depth_by_needs, turned};
 use metqoraz::paper::order::{read_order, trace_of, write_order};
-use metqoraz::paper::terms::Tariff;
+use metqoraz::paper::terms::{Tariff, DEPTH_MAX, RATE_MAX};
 use metqoraz::paper::{Answer, LIST};
 use std::cell::RefCell;
 use std::collections::BTreeMap;
@@ -74,6 +74,76 @@ pub fn any_file(longest: u32, seed: &mut Seed) -> Vec<u8> {
     } else {
         file
     }
+}
+
+/// A rate inside the cap, at it, just above it, or any.
+pub fn any_rate(cap: u32, seed: &mut Seed) -> u32 {
+    let (inside, any) = (seed.between(0, cap), seed.bits() as u32);
+    seed.pick([0, inside, inside, cap, cap.saturating_add(1), any])
+}
+
+/// The same for the order in a file, whole or damaged.
+pub fn any_rate_for(file: &[u8], seed: &mut Seed) -> u32 {
+    any_rate(read_order(file).map_or(0, |(_, tariff)| tariff.rate_cap), seed)
+}
+
+/// An order and a rate about the mean of its demands, with wide caps and a fresh bucket that is half full at the most:
+/// the depth turns on which demands come first.
+pub fn balanced(longest: u32, seed: &mut Seed) -> (Tariff, Vec<u16>, u32) {
+    let tariff = any_tariff(seed);
+    let depth_cap = seed.pick([DEPTH_MAX, DEPTH_MAX, 50_000]);
+    let tariff = Tariff { p: tariff.p / 2, rate_cap: RATE_MAX, depth_cap, ..tariff };
+    let limit = 1 + seed.of_any_size(2 * RATE_MAX);
+    let demands: Vec<u16> = any_trace(longest, seed).iter().map(|&demand| (u32::from(demand) % limit) as u16).collect();
+    let mean = demands.iter().copied().map(u32::from).sum::<u32>() / demands.len() as u32;
+    (tariff, demands, seed.between(mean / 2, mean * 3 / 2).min(RATE_MAX))
+}
+
+/// Every list of one demand and, first or last, another, at the ends of their ranges.
+fn lists_at_the_ends() -> Vec<Vec<u16>> {
+    let demands = [0, 1, 4_095, 4_096, u16::MAX];
+    let pairs = demands.into_iter().flat_map(|demand| demands.map(|other| (demand, other)));
+    let lists = pairs.flat_map(|(demand, other)| {
+        [1, 2, 511, 512].map(|periods| {
+            let mut list = vec![demand; periods];
+            list[0] = other;
+            list
+        })
+    });
+    lists.flat_map(|list| [turned(&list), list]).collect()
+}
+
+/// Runs the check for orders of such lists, with factor and caps at the ends of their ranges, and for rates about the
+/// cap.
+pub fn for_the_ends(check: impl Fn(&[u8], u32)) {
+    let factors = [(0, 1), (1, 1), (0, 1_000), (1, 1_000), (999, 1_000), (1_000, 1_000)];
+    let capped = |(p, q)| {
+        let caps =
+            [0, 1, RATE_MAX].into_iter().flat_map(|rate_cap| [0, 1, DEPTH_MAX].map(|depth_cap| (rate_cap, depth_cap)));
+        caps.map(move |(rate_cap, depth_cap)| Tariff { p, q, rate_cap, depth_cap, ..printed_case().0 })
+    };
+    let lists = lists_at_the_ends();
+    for tariff in factors.into_iter().flat_map(capped) {
+        for list in &lists {
+            let file = file_of(&(tariff, list.clone()));
+            [0, tariff.rate_cap, tariff.rate_cap + 1, u32::MAX].into_iter().for_each(|rate| check(&file, rate));
+        }
+    }
+}
+
+/// The file with each of its bits changed, and cut to each length or with up to two bytes more.
+pub fn every_change(file: &[u8]) -> Vec<Vec<u8>> {
+    let with_bit = |bit: usize| {
+        let mut bytes = file.to_vec();
+        bytes[bit / 8] ^= 1 << (bit % 8);
+        bytes
+    };
+    let with_length = |length| {
+        let mut bytes = file.to_vec();
+        bytes.resize(length, 0);
+        bytes
+    };
+    (0..8 * file.len()).map(with_bit).chain((0..file.len() + 3).map(with_length)).collect()
 }
 
 /// What a call of the paper gives for an order's bytes: the refusal of reading them, or what the tariff and the trace

@@ -95,7 +95,7 @@ module _ {r C : ℕ} {ds : List ℕ} {v first demands tokens u : ℕ} (k : Start
   miss : (new : ℕ) → demands' ≤ tokens' → new ≡ first → Started r C ds v new demands' tokens' j
   miss new h e =
       let f : search-u ≡ firstFrom (λ m. short r C ds m v) (v - u) (j + 1 + 1) =
-          from-failed (λ m. short r C ds m v) (j + 1) (v - j) (v - u) (omega (arith, k .inside)) (short-u false (sums-enough r C demands' tokens' _ sums' gained h)) in
+      from-failed (λ m. short r C ds m v) (j + 1) (v - j) (v - u) (omega (arith, k .inside)) (short-u false (sums-enough r C demands' tokens' _ sums' gained h)) in
       let g : u + 1 ≡ j + 1 + 1 = omega arith in
       next new (e ∙ k .so-far ∙ ap (λ (b : ℕ). figureOr (firstFrom (λ m. short r C ds m v) (v - u) b) v) g ∙ sym (ap (λ (a : Answer ℕ). figureOr a v) f))
 
@@ -111,7 +111,7 @@ abbrev μ-loop : tie.MeasureT-loop
 μ-loop trace bucket last first₀ demands₀ tokens₀ u₀ first demands tokens u = u
 
 loop-holds : tie.Need-loop-holds Inv-loop μ-loop
-loop-holds c = start _ _ _ _ (c .pre .1 .1 .0 .some)
+loop-holds c = start _ _ _ _ (c .pre .1 .1 .0)
 
 sub-demands : tie.Need-sub-demands Inv-loop μ-loop
 sub-demands c = search needs
@@ -119,7 +119,7 @@ sub-demands c = search needs
 mul-demands : tie.Need-mul-demands Inv-loop μ-loop
 mul-demands c =
     let s = c .before .before in
-    omega (arith, c .before .loop .inv .inside, s .pre .1 .1 .0 .few)
+    omega (arith, c .before .loop .inv .inside, s .pre .1 .1 .1, s .pre .0 .few)
 
 shared-slice-read-demands : tie.Need-shared-slice-read-demands Inv-loop μ-loop
 shared-slice-read-demands c =
