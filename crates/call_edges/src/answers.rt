@@ -36,6 +36,7 @@ fn answer(kind: u8, figures: &[u8], trace: &[u16], last: u32) {
         b'r' => print_meter(meter_run(bucket_of(figures), factor_of(figures), trace)),
         b'd' => report::depth(depth::depth_at(trace, Rate(last), tariff_of(figures))),
         b'e' => report::depth(depth::depth_from_end(trace, Rate(last), tariff_of(figures))),
+        b'c' => report::explained(causes::explain(trace, Rate(last), tariff_of(figures))),
         b'b' => report::single(single::single(trace, tariff_of(figures))),
         b's' => series(trace, tariff_of(figures), last as usize),
         _ => report::words(b" no such case\n"),

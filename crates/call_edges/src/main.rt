@@ -1,7 +1,7 @@
 // Prints what the calls on a bucket, a meter and a trace answer at the edges of document 01, an edge to a
-// line: ranges, trial, meter, depth from either end of a trace, single and series. The cases stand in the
-// file stdin, which says its form; after them come the meter that is offered a million periods and the run
-// of a million demands.
+// line: ranges, trial, meter, depth from either end of a trace and its cause, single and series. The cases
+// stand in the file stdin, which says its form; after them come the meter that is offered a million periods
+// and the run of a million demands.
 mod answers;
 mod meters;
 mod million;

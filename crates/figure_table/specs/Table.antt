@@ -1,6 +1,6 @@
 -- The lettered figures of document 01, "Figures to hold the definitions to", depths of traces in archive order (02,
--- job 2) and checks of plans for the printed case (02, job 1), as one table. That it holds is proved of the definitions
--- (`TableLaws`).
+-- job 2), what sets a depth (02, job 3) and checks of plans for the printed case (02, job 1), as one table. That it
+-- holds is proved of the definitions (`TableLaws`).
 -- Assumes nothing.
 use Prim.Native.Nat.{ℕ}
 use mathlib.Core.List.{List, [], _∷_, map}
@@ -15,6 +15,7 @@ use Rattle.bucket.specs.Trial.{trialOf}
 use Rattle.meter.specs.declared.meters.Meter.{Meter}
 use Rattle.meter.specs.Meter.{openOf, afterOffers}
 use Rattle.depth.specs.Depth.{depthFromEnd, depthOf}
+use Rattle.causes.specs.Cause.{SetBy, nothing, opening, stretch, Explanation, explainOf}
 use Rattle.single.specs.declared.costs.Priced.{Priced}
 use Rattle.single.specs.Single.{bucketOf, atRate, singleOf}
 use Rattle.series.specs.Series.{trueCost, seriesOf}
@@ -53,6 +54,10 @@ capped B = tariff 2 1 4 half 4095 B
 uneven : Tariff
 uneven = tariff 7 5 0 (record { p = 2; q = 3 }) 4095 1000000
 
+-- full buckets: factor 1/1
+full : Tariff
+full = tariff 2 1 4 (record { p = 1; q = 1 }) 4095 1000000
+
 -- row G's and H's: factor 0/1, caps 5 and 10
 empty : Tariff
 empty = tariff 2 1 4 (record { p = 0; q = 1 }) 5 10
@@ -62,6 +67,15 @@ case = 4 ∷ 8 ∷ 2 ∷ []
 
 depthRow : ℕ → List ℤ
 depthRow B = pos B ∷ []
+
+-- depth, and first and last period of what sets it, or 0 for nothing
+causeRow : SetBy → List ℤ
+causeRow nothing = pos 0 ∷ []
+causeRow (opening v) = pos 1 ∷ pos v ∷ []
+causeRow (stretch u v) = pos u ∷ pos v ∷ []
+
+explainRow : Explanation → List ℤ
+explainRow x = pos (x .depth) ∷ causeRow (x .cause)
 
 -- rate, depth and cost
 singleRow : Priced → List ℤ
@@ -108,7 +122,7 @@ verdictAt t ds cost xs = figures (verdictRow (verdictOf t ds (record { periods =
 
 -- The rows of the series stand last: they take longest, and the test ends at the first row that is wrong.
 unfoldable pub table : List Row
-unfolding half tariff printed withFee capped uneven empty case depthRow singleRow costRow bucketRows seriesRow seriesAt trialRow meterRow textRow printedSheet verdictRow verdictAt
+unfolding half tariff printed withFee capped uneven full empty case depthRow causeRow explainRow singleRow costRow bucketRows seriesRow seriesAt trialRow meterRow textRow printedSheet verdictRow verdictAt
 table =
     -- A: 4,8,2 at rates 4, 5, 6: depths 8, 4, 2
     record { given = onFigures depthRow (depthOf printed 4 case); paper = figures (pos 8 ∷ []) }
@@ -126,6 +140,21 @@ table =
     ∷ record { given = onFigures depthRow (depthFromEnd printed 5 (8 ∷ 2 ∷ [])); paper = figures (pos 3 ∷ []) }
     ∷ record { given = onFigures depthRow (depthFromEnd empty 5 (2 ∷ 8 ∷ [])); paper = refused 7 }
     ∷ record { given = onFigures depthRow (depthFromEnd empty 5 (8 ∷ 2 ∷ [])); paper = figures (pos 3 ∷ []) }
+    -- 02, job 3: 4,8,2 at rates 0, 4, 5: depths 28, 8, 4, openings of 3, 2, 2; at 6, 7: 2, 1, stretch 2–2; at 8: 0
+    ∷ record { given = onFigures explainRow (explainOf printed 0 case); paper = figures (pos 28 ∷ pos 1 ∷ pos 3 ∷ []) }
+    ∷ record { given = onFigures explainRow (explainOf printed 4 case); paper = figures (pos 8 ∷ pos 1 ∷ pos 2 ∷ []) }
+    ∷ record { given = onFigures explainRow (explainOf printed 5 case); paper = figures (pos 4 ∷ pos 1 ∷ pos 2 ∷ []) }
+    ∷ record { given = onFigures explainRow (explainOf printed 6 case); paper = figures (pos 2 ∷ pos 2 ∷ pos 2 ∷ []) }
+    ∷ record { given = onFigures explainRow (explainOf printed 7 case); paper = figures (pos 1 ∷ pos 2 ∷ pos 2 ∷ []) }
+    ∷ record { given = onFigures explainRow (explainOf printed 8 case); paper = figures (pos 0 ∷ pos 0 ∷ []) }
+    -- … full buckets at rate 5: 0,5,7 stretch 2–3; 0,5,5,7,7 stretch 2–5; 1,7,7,1,9 stretch 2–3; 5,5,7 opening of 3
+    ∷ record { given = onFigures explainRow (explainOf full 5 (0 ∷ 5 ∷ 7 ∷ [])); paper = figures (pos 2 ∷ pos 2 ∷ pos 3 ∷ []) }
+    ∷ record { given = onFigures explainRow (explainOf full 5 (0 ∷ 5 ∷ 5 ∷ 7 ∷ 7 ∷ [])); paper = figures (pos 4 ∷ pos 2 ∷ pos 5 ∷ []) }
+    ∷ record { given = onFigures explainRow (explainOf full 5 (1 ∷ 7 ∷ 7 ∷ 1 ∷ 9 ∷ [])); paper = figures (pos 4 ∷ pos 2 ∷ pos 3 ∷ []) }
+    ∷ record { given = onFigures explainRow (explainOf full 5 (5 ∷ 5 ∷ 7 ∷ [])); paper = figures (pos 2 ∷ pos 1 ∷ pos 3 ∷ []) }
+    -- … factor 0/1 at rate 5: 2,8 stretch 2–2; 8,2 refusal 7
+    ∷ record { given = onFigures explainRow (explainOf empty 5 (2 ∷ 8 ∷ [])); paper = figures (pos 3 ∷ pos 2 ∷ pos 2 ∷ []) }
+    ∷ record { given = onFigures explainRow (explainOf empty 5 (8 ∷ 2 ∷ [])); paper = refused 7 }
     -- C: single for 4,8,2: (5, 4), cost 46; rate 6 with depth 2 costs the same
     ∷ record { given = onFigures singleRow (singleOf printed case); paper = figures (pos 5 ∷ pos 4 ∷ pos 46 ∷ []) }
     ∷ record { given = onFigures singleRow (atRate printed case 6); paper = figures (pos 6 ∷ pos 2 ∷ pos 46 ∷ []) }

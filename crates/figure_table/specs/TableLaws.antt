@@ -8,6 +8,7 @@ use Rattle.bucket.specs.Trace.{sumOf, carriesFrom, gaps, leastOf, spareFrom}
 use Rattle.bucket.specs.Trial.{trialFigures}
 use Rattle.meter.specs.Meter.{meterOk, offerOf, afterOffers}
 use Rattle.depth.specs.Depth.{firstFrom, depthOf}
+use Rattle.causes.specs.Cause.{needOf, causeOf}
 use Rattle.single.specs.Cost.{costOf}
 use Rattle.single.specs.Preference.{smaller, preferred}
 use Rattle.single.specs.Single.{bestOf, singleOf}
@@ -21,7 +22,7 @@ use Rattle.figure_table.specs.RowLaws.{allRight, all-hold}
 use Rattle.figure_table.specs.Table.{table}
 
 table-right : allRight table ≡ true
-unfolding table allRight startOf sumOf carriesFrom gaps leastOf spareFrom trialFigures meterOk offerOf afterOffers firstFrom depthOf costOf smaller preferred bestOf singleOf total longer wins bestFirst bests seriesOf digits numeralIn runLines runsOk
+unfolding table allRight startOf sumOf carriesFrom gaps leastOf spareFrom trialFigures meterOk offerOf afterOffers firstFrom depthOf needOf causeOf costOf smaller preferred bestOf singleOf total longer wins bestFirst bests seriesOf digits numeralIn runLines runsOk
 table-right = refl
 
 pub figures-hold : Hold table

@@ -53,6 +53,7 @@ fn answer(kind: u8, figures: &[u8], trace: &[u16], rate: Rate) {
     match kind {
         b'd' => report::depth(metqoraz::depth_at(trace, rate, tariff_of(figures))),
         b'e' => report::depth(metqoraz::depth_from_end(trace, rate, tariff_of(figures))),
+        b'c' => report::explained(metqoraz::explain(trace, rate, tariff_of(figures))),
         b'b' => report::single(metqoraz::single(trace, tariff_of(figures))),
         b't' => report::trial(metqoraz::trial(bucket_of(figures), factor_of(figures), trace)),
         b's' => print_series(trace, tariff_of(figures)),

@@ -5,6 +5,8 @@ mod file_bytes;
 mod lent_lists;
 
 use bucket::TrialAnswer;
+use causes::Cause;
+use causes::ExplainAnswer;
 use depth::DepthAnswer;
 pub use file_answers::fill;
 pub use file_answers::filled_of;
@@ -100,6 +102,30 @@ pub fn depth(a: DepthAnswer) {
         DepthAnswer::Refused(x) => refusal(x),
     }
     end_line();
+}
+
+// The depth and its cause, or the refusal.
+pub fn explained(a: ExplainAnswer) {
+    match a {
+        ExplainAnswer::Found(x) => {
+            let set_by = x.cause;
+            figure(b" depth", x.depth.0 as u64);
+            cause(set_by);
+        }
+        ExplainAnswer::Refused(x) => refusal(x),
+    }
+    end_line();
+}
+
+fn cause(x: Cause) {
+    match x {
+        Cause::Nothing => words(b" nothing"),
+        Cause::Opening(o) => figure(b" opening", o.periods as u64),
+        Cause::Stretch(s) => {
+            figure(b" stretch", s.first as u64);
+            number(s.last as u64);
+        }
+    }
 }
 
 // The bucket and its cost, or the refusal.

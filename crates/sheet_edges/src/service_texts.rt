@@ -56,6 +56,8 @@ pub fn services(order: &[u8], bucket: Bucket, room: usize) {
     depth_in(order, bucket.rate, room);
     report::figure(b"from the end in", room as u64);
     depth_from_end_in(order, bucket.rate, room);
+    report::figure(b"cause in", room as u64);
+    cause_in(order, bucket.rate, room);
 }
 
 pub fn sheet_in(order: &[u8], room: usize) {
@@ -85,6 +87,12 @@ fn depth_in(order: &[u8], rate: Rate, room: usize) {
 fn depth_from_end_in(order: &[u8], rate: Rate, room: usize) {
     let mut text = [LENT; LENT_BYTES];
     let answer = services::depth_from_end_line(order, rate, lent_front(&mut text, room));
+    print(answer, &text);
+}
+
+fn cause_in(order: &[u8], rate: Rate, room: usize) {
+    let mut text = [LENT; LENT_BYTES];
+    let answer = services::explain_line(order, rate, lent_front(&mut text, room));
     print(answer, &text);
 }
 
