@@ -15,7 +15,7 @@ ghost use Rattle.terms.specs.Answer.{figures};
 ghost use Rattle.depth.specs.Depth.{depthOf};
 ghost use Rattle.causes.specs.Cause.{causeOf, causeSays, explainOf, explainSays};
 
-// The first periods of a trace, so many of them.
+// The first periods of a trace, so many of them. "Opening" and "stretch" are document 02's words.
 pub struct Opening {
     pub periods: u32,
 }
