@@ -31,10 +31,14 @@ pub data SetBy : Type 0 where
 abbrev pub fromTo : ℕ → ℕ → List ℕ → List ℕ
 fromTo u v ds = slice (u - 1) v ds
 
+-- The summed demand of some periods.
+abbrev pub demandOf : List ℕ → ℕ
+demandOf ds = total (λ d. d) ds
+
 -- The need of some periods at rate r: their summed demand less the rate for each. The library's `-` stops at 0, and no
 -- tokens fall short of a need of 0 or less.
 unfoldable pub needOf : ℕ → List ℕ → ℕ
-needOf r ds = total (λ d. d) ds - r * length ds
+needOf r ds = demandOf ds - r * length ds
 
 -- y tokens fall short of the need of periods u to v.
 abbrev pub short : ℕ → ℕ → List ℕ → ℕ → ℕ → Bool

@@ -19,10 +19,10 @@ use Rattle.bucket.specs.Trace.{carries, carriesFrom}
 use Rattle.depth.specs.Depth.{depthOf}
 use Rattle.depth.specs.Need.{needBefore}
 use Rattle.depth.specs.NeedLaws.{carried-meets, depth-meets, meets-carried}
-use Rattle.causes.specs.Cause.{opening, stretch, startAt, fromTo, needOf}
+use Rattle.causes.specs.Cause.{opening, stretch, startAt, demandOf, fromTo, needOf}
 use Rattle.causes.specs.CauseLaws.{IsCause}
 use Rattle.causes.specs.FoundLaws.{OpeningShort, StretchShort, StretchesMet, all-met, part}
-use Rattle.causes.specs.PeriodNeedLaws.{all-needed, demandOf, demand-both, front-need}
+use Rattle.causes.specs.PeriodNeedLaws.{all-needed, demand-both, front-need}
 
 -- Tokens that fall short of the need of some periods do not carry them, in a bucket of any depth.
 pub short-discards : (r B y : ℕ) (es : List ℕ) → y < needOf r es → carriesFrom r B y es ≡ false

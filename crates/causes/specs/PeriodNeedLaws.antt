@@ -22,11 +22,7 @@ use Rattle.depth.specs.declared.walk.Walk.{Walk}
 use Rattle.depth.specs.Need.{needBefore}
 use Rattle.depth.specs.SearchLaws.{IsFirstFrom, NoneFrom, from-is}
 use Rattle.depth.specs.Walk.{pushed, started, walkOf}
-use Rattle.causes.specs.Cause.{fromTo, isFound, needOf, short, stretchStart}
-
--- All demands, summed.
-abbrev pub demandOf : List ℕ → ℕ
-demandOf ds = total (λ d. d) ds
+use Rattle.causes.specs.Cause.{demandOf, fromTo, isFound, needOf, short, stretchStart}
 
 -- Periods whose need is at least n, and not by stopping at 0.
 abbrev Needs : ℕ → ℕ → List ℕ → Type 0

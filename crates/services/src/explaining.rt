@@ -49,6 +49,7 @@ fn put_explained(text: &mut [u8], at: usize, explained: Explained) -> usize
     put_cause(text, end, cause)
 }
 
+// What sets a depth, behind it on its line.
 fn put_cause(text: &mut [u8], at: usize, cause: Cause) -> usize
     requires { ⌜ at + length (causeFields (causeSays cause)) ≤ length (now text) ⌝ }
     ensures { λ r. ⌜ Puts (now (text .entry)) at (causeFields (causeSays cause)) (now (text .exit)) r ⌝ }

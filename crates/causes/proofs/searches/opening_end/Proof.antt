@@ -15,8 +15,8 @@ use Rattle.bucket.specs.Laws.{demands-take}
 use Rattle.bucket.specs.Trace.{Demands}
 use Rattle.depth.specs.Depth.{firstFrom}
 use Rattle.depth.specs.SearchLaws.{from-failed, from-none, from-passed}
-use Rattle.causes.specs.Cause.{openingEnd, short}
-use Rattle.causes.specs.PeriodNeedLaws.{demandOf, demand-le, demand-more, sums-enough, sums-short}
+use Rattle.causes.specs.Cause.{demandOf, openingEnd, short}
+use Rattle.causes.specs.PeriodNeedLaws.{demand-le, demand-more, sums-enough, sums-short}
 use Rattle.causes.proofs.searches.opening_end.Statement.{statement}
 use Rattle.causes.proofs.searches.opening_end.Tie as tie
 

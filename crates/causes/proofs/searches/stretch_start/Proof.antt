@@ -18,8 +18,8 @@ use Rattle.bucket.specs.Laws.{demands-drop, demands-take}
 use Rattle.bucket.specs.Trace.{Demands}
 use Rattle.depth.specs.Depth.{firstFrom}
 use Rattle.depth.specs.SearchLaws.{from-failed, from-none, from-passed}
-use Rattle.causes.specs.Cause.{needOf, short, stretchStart}
-use Rattle.causes.specs.PeriodNeedLaws.{demandOf, demand-le, sums-enough, sums-short}
+use Rattle.causes.specs.Cause.{demandOf, needOf, short, stretchStart}
+use Rattle.causes.specs.PeriodNeedLaws.{demand-le, sums-enough, sums-short}
 use Rattle.causes.proofs.searches.stretch_start.Statement.{statement}
 use Rattle.causes.proofs.searches.stretch_start.Tie as tie
 
