@@ -1,5 +1,7 @@
 // Books the order on standard input: writes the plan file to standard output; or nothing there, and
 // the refusal line to standard error.
+#![tactic(auto)]
+
 mod files;
 
 use booking::BookingAnswer;

@@ -11,7 +11,7 @@ use terms::limits::TRACE_LIMIT;
 
 // The answer with the demands of an order that is read, the records of the plan found and those read
 // back.
-#[derive(Drop)]
+#[derive(Clone, Copy)]
 pub struct BookedRecords {
     pub answer: BookingAnswer,
     pub demands: [u16; TRACE_LIMIT],

@@ -1,5 +1,7 @@
 // Booking: the calls that lead from an order file to a plan that is recorded, read back and metered,
 // in one call.
+#![tactic(auto)]
+
 mod bookings;
 mod calls;
 mod records;

@@ -1,6 +1,8 @@
 // Prints what booking an order answers: the figures, the file read again and the meter of each run, or the
 // refusal; and whether the rest of what was lent is kept. The cases stand in the file stdin, which says its
 // form.
+#![tactic(auto)]
+
 mod edge;
 mod recorded;
 mod rooms;

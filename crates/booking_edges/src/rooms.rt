@@ -3,7 +3,7 @@ use cases::figure;
 
 // The entries of the demands and of the list for planning, the bytes, and the entries of the list
 // read into.
-#[derive(Drop)]
+#[derive(Clone, Copy)]
 pub struct Rooms {
     pub demands: usize,
     pub list: usize,

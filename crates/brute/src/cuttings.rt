@@ -5,7 +5,7 @@ use crate::runs::of_run;
 use samples::small::Small;
 
 // The lengths of the runs; 0 where there is no more run.
-#[derive(Drop)]
+#[derive(Clone, Copy)]
 pub struct Cutting {
     pub first: u8,
     pub second: u8,
@@ -14,7 +14,7 @@ pub struct Cutting {
 }
 
 // The cheapest cutting so far and its cost, or no run and UNPRICED.
-#[derive(Drop)]
+#[derive(Clone, Copy)]
 pub struct Choice {
     pub cutting: Cutting,
     pub cost: u32,

@@ -1,4 +1,6 @@
 // The calls against plain runs and trials of every bucket, on every small case.
+#![tactic(auto)]
+
 mod cutting_records;
 mod cuttings;
 mod meter_cases;
@@ -7,7 +9,7 @@ mod series_cases;
 mod single_cases;
 
 // The calls that are compared.
-#[derive(Drop)]
+#[derive(Clone, Copy)]
 enum Calls {
     // trial and meter
     Meters,

@@ -65,7 +65,7 @@ fn offered(m: Meter, trace: [u16; 3]) -> Meter {
 }
 
 // The tokens after a period, and what it discards.
-#[derive(Drop)]
+#[derive(Clone, Copy)]
 struct Ran {
     tokens: u32,
     over: u16,

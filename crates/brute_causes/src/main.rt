@@ -1,4 +1,6 @@
 // The explaining call against trials and a plain search, on every small case.
+#![tactic(auto)]
+
 mod plain;
 
 use causes::{ExplainAnswer, explain};

@@ -5,7 +5,7 @@ use causes::Cause;
 use terms::Factor;
 
 // Periods of a trace: how many stand before them, and how many they are. An opening has none before it.
-#[derive(Drop)]
+#[derive(Clone, Copy)]
 pub struct Part {
     before: u8,
     periods: u8,

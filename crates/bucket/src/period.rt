@@ -9,7 +9,7 @@ use terms::numbers::lesser;
 use terms::{Bucket, Factor};
 
 // What one period does, in tokens: sent, over (discarded), lost, and held into the next period.
-#[derive(Drop)]
+#[derive(Clone, Copy)]
 pub struct Period {
     pub sent: u32,
     pub over: u32,

@@ -10,14 +10,14 @@ use terms::{Bucket, Factor, Rate, Refusal, fresh_in_range, periods_in_range};
 
 // Spare is the least tokens less demand over the periods, below 0 where something is discarded;
 // over is what is discarded in all.
-#[derive(Drop)]
+#[derive(Clone, Copy)]
 pub struct TrialFigures {
     pub spare: i64,
     pub over: u32,
 }
 
 // What a trial answers: the figures, or the refusal.
-#[derive(Drop)]
+#[derive(Clone, Copy)]
 pub enum TrialAnswer {
     Found(TrialFigures),
     Refused(Refusal),

@@ -2,6 +2,8 @@
 // line: ranges, trial, meter, depth from either end of a trace and its cause, single and series. The cases
 // stand in the file stdin, which says its form; after them come the meter that is offered a million periods
 // and the run of a million demands.
+#![tactic(auto)]
+
 mod answers;
 mod meters;
 mod million;

@@ -1,5 +1,7 @@
 // The cases of a test program, as data on its standard input: a line for each, in fields between bars.
 // Empty lines and lines that begin with # are no cases. For the test programs alone.
+#![tactic(auto)]
+
 mod escapes;
 mod files;
 mod made;

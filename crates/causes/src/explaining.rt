@@ -10,20 +10,20 @@ use depth::{DepthAnswer, depth_at};
 use terms::{Bucket, Depth, Rate, Refusal, Tariff};
 
 // The first periods of a trace, so many of them. "Opening" and "stretch" are document 02's words.
-#[derive(Drop)]
+#[derive(Clone, Copy)]
 pub struct Opening {
     pub periods: u32,
 }
 
 // The periods of a trace from one to another, counted from 1.
-#[derive(Drop)]
+#[derive(Clone, Copy)]
 pub struct Stretch {
     pub first: u32,
     pub last: u32,
 }
 
 // What sets a depth: the periods that a depth one smaller falls short of. Nothing sets a depth of 0.
-#[derive(Drop)]
+#[derive(Clone, Copy)]
 pub enum Cause {
     Nothing,
     Opening(Opening),
@@ -31,14 +31,14 @@ pub enum Cause {
 }
 
 // A depth and its cause.
-#[derive(Drop)]
+#[derive(Clone, Copy)]
 pub struct Explained {
     pub depth: Depth,
     pub cause: Cause,
 }
 
 // What the explaining call answers: the depth with its cause, or the refusal.
-#[derive(Drop)]
+#[derive(Clone, Copy)]
 pub enum ExplainAnswer {
     Found(Explained),
     Refused(Refusal),

@@ -1,4 +1,6 @@
 // What sets a depth: the depth at a rate, with the periods that it is needed for.
+#![tactic(auto)]
+
 mod explaining;
 mod searches;
 

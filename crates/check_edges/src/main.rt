@@ -1,6 +1,8 @@
 // Prints what a check of a plan answers for an order: the verdict, or the refusal; the line of it, of two
 // files and of one behind the other; and whether the rest of the text is kept. The cases stand in the file
 // stdin, which says its form.
+#![tactic(auto)]
+
 mod checks;
 mod joined;
 

@@ -1,5 +1,7 @@
 // Says of the order and the plan behind it on standard input whether the plan holds, and its excess; or
 // prints the refusal line.
+#![tactic(auto)]
+
 use checking::{LONGEST_VERDICT, check_files};
 use console::{has_words, print, read_all};
 use order_file::LONGEST_ORDER;

@@ -1,5 +1,7 @@
 // Plans checked against an order, whichever planning house made them: whether a plan holds, and by how
 // much it is dearer than the cheapest.
+#![tactic(auto)]
+
 mod checks;
 mod lines;
 mod runs;

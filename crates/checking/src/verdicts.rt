@@ -13,7 +13,7 @@ use terms::limits::TRACE_LIMIT;
 use terms::{BucketRecord, Refusal, Tariff};
 
 // Yes, with the excess: by how much the plan costs more than the cheapest for the order.
-#[derive(Drop)]
+#[derive(Clone, Copy)]
 pub enum CheckAnswer {
     Yes(u64),
     No,

@@ -2,6 +2,8 @@
 // standard error. For them alone: no contract can say what a program reads or writes, so each
 // program's output is held to a stored one. Where a read or a write fails, a line on standard error has
 // what the caller hands over as `what`, the program and its input or output, and the system's reason.
+#![tactic(auto)]
+
 mod arguments;
 
 ghost use Rattle.io.specs.Counts.{IsPrefixLen};

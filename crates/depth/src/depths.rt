@@ -10,7 +10,7 @@ use crate::walk::Walk;
 use terms::{Depth, Rate, Refusal, Tariff, periods_in_range, tariff_in_range};
 
 // What the depth call answers: the depth, or the refusal.
-#[derive(Drop)]
+#[derive(Clone, Copy)]
 pub enum DepthAnswer {
     Found(Depth),
     Refused(Refusal),
@@ -42,7 +42,7 @@ pub fn depth_from_end(list: &[u16], rate: Rate, tariff: Tariff) -> DepthAnswer
 }
 
 // What both calls begin with: the walk through a list of demands as it comes, or the refusal.
-#[derive(Drop)]
+#[derive(Clone, Copy)]
 enum WalkAnswer {
     Walked(Walk),
     Refused(Refusal),

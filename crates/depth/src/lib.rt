@@ -1,4 +1,6 @@
 // The smallest depth that carries a trace at a rate.
+#![tactic(auto)]
+
 mod depths;
 pub mod walk;
 

@@ -12,7 +12,7 @@ use terms::numbers::{greater, short_by};
 use terms::{Depth, Factor, Rate, Refusal};
 
 // What the periods so far ask for, in tokens.
-#[derive(Drop)]
+#[derive(Clone, Copy)]
 pub struct Walk {
     // all demands
     pub sum: u32,

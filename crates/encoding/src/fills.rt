@@ -1,7 +1,7 @@
 // What the calls answer that fill the front of a lent list or of lent bytes.
 use terms::Refusal;
 
-#[derive(Drop)]
+#[derive(Clone, Copy)]
 pub enum FillAnswer {
     // how many entries were filled
     Filled(usize),

@@ -1,5 +1,7 @@
 // Prints the smallest depth that carries the trace of the order on standard input at a rate, with what sets
 // it, or the refusal line. The argument is the rate.
+#![tactic(auto)]
+
 use console::{ORDER_ROOM, has_words, number_argument, print, read_all};
 use services::{LONGEST_EXPLAINED, explain_line};
 use terms::Rate;

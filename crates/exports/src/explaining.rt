@@ -12,7 +12,7 @@ use terms::Rate;
 
 // A cause as numbers: 0 for nothing, 1 for an opening, 2 for a stretch; and its first and last period,
 // both 0 for nothing.
-#[derive(Drop)]
+#[derive(Clone, Copy)]
 struct CauseNumbers {
     cause: u32,
     first: u32,

@@ -1,5 +1,7 @@
 // Prints the lettered figures of document 01, and job 2's of document 02, as the calls give them that are
 // offered. The rows of depth, single bucket, series and trial stand in the file stdin, which says its form.
+#![tactic(auto)]
+
 use cases::{
     DEMANDS, bucket_of, demands, factor_of, field, figure, first, line, lines, tariff_of, trace,
 };

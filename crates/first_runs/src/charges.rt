@@ -21,7 +21,7 @@ use terms::{Bucket, Depth, Rate, Refusal, Tariff};
 const NO_CHARGE: u64 = 2_000_000_000_000_000_000;
 
 // A walk, the depth that it needs, and what that costs in a period.
-#[derive(Drop)]
+#[derive(Clone, Copy)]
 pub struct Charged {
     pub walk: Walk,
     pub depth: Depth,

@@ -9,7 +9,7 @@ use terms::Rate;
 pub const UNPRICED: u64 = 1_000_000_000_000_000_000;
 
 // The cost of a cutting, its buckets and the periods of its first run.
-#[derive(Drop)]
+#[derive(Clone, Copy)]
 pub struct Outline {
     pub cost: u64,
     pub buckets: u32,
@@ -17,7 +17,7 @@ pub struct Outline {
 }
 
 // A cutting's outline and the rate of its first run.
-#[derive(Drop)]
+#[derive(Clone, Copy)]
 pub struct Choice {
     pub outline: Outline,
     pub rate: Rate,

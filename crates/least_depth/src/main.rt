@@ -1,6 +1,8 @@
 // Prints the smallest depth that carries the trace of the order on standard input at a rate, or the refusal
 // line. The arguments are the rate and, where the order's demands stand in archive order, the word
 // from-end.
+#![tactic(auto)]
+
 use console::{ORDER_ROOM, has_words, is_word, number_argument, print, read_all};
 use encoding::FillAnswer;
 use services::{LONGEST_DEPTH, depth_from_end_line, depth_line};

@@ -1,5 +1,7 @@
 // Plans in a lent list of bucket records: the series planned into it, and the plan file read into it
 // and written from it.
+#![tactic(auto)]
+
 mod cuttings;
 mod files;
 

@@ -9,7 +9,7 @@ use samples::lent_records::ENTRIES;
 use terms::{BucketRecord, Tariff};
 
 // What the series call answers, and the list afterwards.
-#[derive(Drop)]
+#[derive(Clone, Copy)]
 pub struct SeriesLent {
     pub answer: SeriesAnswer,
     pub list: [BucketRecord; ENTRIES],
@@ -29,7 +29,7 @@ pub fn series_in(
 }
 
 // What plan reading answers, and the list afterwards.
-#[derive(Drop)]
+#[derive(Clone, Copy)]
 pub struct ReadLent {
     pub answer: PlanAnswer,
     pub list: [BucketRecord; ENTRIES],
@@ -55,7 +55,7 @@ pub fn write_in(
 }
 
 // What booking answers, and the lists planned and read into afterwards.
-#[derive(Drop)]
+#[derive(Clone, Copy)]
 pub struct BookLent {
     pub answer: BookingAnswer,
     pub plan: [BucketRecord; ENTRIES],

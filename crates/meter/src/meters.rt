@@ -11,7 +11,7 @@ use terms::{Bucket, Factor, Refusal, fresh_in_range};
 
 // A meter's record: the bucket and the factor it was set up with, the tokens it holds, the periods
 // so far, and what was sent, over (discarded) and lost in all of them.
-#[derive(Drop)]
+#[derive(Clone, Copy)]
 pub struct Meter {
     pub bucket: Bucket,
     pub factor: Factor,
@@ -23,21 +23,21 @@ pub struct Meter {
 }
 
 // What opening answers: the record of a meter that has taken no offer, or the refusal.
-#[derive(Drop)]
+#[derive(Clone, Copy)]
 pub enum MeterAnswer {
     Opened(Meter),
     Refused(Refusal),
 }
 
 // What one offer answers: what its period sent, discarded, lost and holds, or the refusal.
-#[derive(Drop)]
+#[derive(Clone, Copy)]
 pub enum OfferAnswer {
     Taken(Period),
     Refused(Refusal),
 }
 
 // The record that comes back from an offer, and the offer's answer.
-#[derive(Drop)]
+#[derive(Clone, Copy)]
 pub struct Offered {
     pub meter: Meter,
     pub answer: OfferAnswer,

@@ -1,6 +1,7 @@
 // What Metqoraz offers: every call that a planner's program may make, and the types in its signature, by
 // subject. None requires anything of its caller: whatever is handed over gives the figures or one
 // numbered refusal, and after a refusal everything lent holds what it held.
+#![tactic(auto)]
 
 // The nouns, the refusals and their numbers, and whether figures are in their ranges.
 pub use terms::{

@@ -1,6 +1,8 @@
 // Reads an order typed as text on standard input and writes its order file to standard output; or
 // writes nothing there, and one line on standard error that says what is wrong and where. Text has
 // at most 65,535 bytes.
+#![tactic(auto)]
+
 mod faults;
 
 use console::{has_words, put_front, read_all};

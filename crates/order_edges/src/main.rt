@@ -1,6 +1,8 @@
 // Prints what the calls on order files answer at the edges of document 01, an edge to a line: the figures
 // or the refusal, and whether the rest of what was lent is kept. The cases stand in the file stdin, which
 // says its form; before them comes the printed order byte by byte, and after them files around the longest.
+#![tactic(auto)]
+
 mod demands;
 mod longest;
 mod printed;

@@ -1,5 +1,7 @@
 // The order file, read and written. A writer fills the front of the lent bytes; a refusal changes
 // nothing that is lent.
+#![tactic(auto)]
+
 mod ends;
 mod orders;
 pub mod spreads;

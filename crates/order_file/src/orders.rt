@@ -27,13 +27,13 @@ const TRACE_OFFSET: usize = 48;
 pub const LONGEST_ORDER: usize = TRACE_OFFSET + 2 * TRACE_LIMIT;
 
 // What reading an order gives: T and the tariff.
-#[derive(Drop)]
+#[derive(Clone, Copy)]
 pub struct Order {
     pub periods: u32,
     pub tariff: Tariff,
 }
 
-#[derive(Drop)]
+#[derive(Clone, Copy)]
 pub enum OrderAnswer {
     Read(Order),
     Refused(Refusal),

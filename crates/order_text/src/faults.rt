@@ -5,7 +5,7 @@ ghost use Rattle.order_text.specs.Text.{reason_number};
 
 use terms::Refusal;
 
-#[derive(Drop)]
+#[derive(Clone, Copy)]
 pub enum Reason {
     // a byte that belongs to no figure
     Byte,
@@ -22,7 +22,7 @@ pub enum Reason {
 // A fault: its line, from 1; its place, how many bytes of the text stand before the one that shows it,
 // or how many the text has where its end does; the figure that is being read or is due there, from 0
 // for the rate price to 6 for the depth cap, and from 7 on for the demands; and its reason.
-#[derive(Drop)]
+#[derive(Clone, Copy)]
 pub struct Fault {
     pub line: usize,
     pub place: usize,

@@ -3,6 +3,8 @@
 // and newlines stand between figures; a line ends at a carriage return, at a newline or at the two
 // together, and a # opens a comment that runs to the end of its line. A fault says its line, its
 // place, its figure and its reason, is refusal 3 or 5 by it, and changes nothing that is lent.
+#![tactic(auto)]
+
 mod bytes;
 mod faults;
 mod scan;

@@ -13,7 +13,7 @@ use typed_figures::figures::{FIGURES_LIMIT, P_INDEX, TARIFF_FIGURES, factor_stan
 use typed_figures::limit_of;
 
 // Where the scan has come to.
-#[derive(Drop)]
+#[derive(Clone, Copy)]
 pub(crate) struct Cursor {
     // the line that the scan is on, from 1
     pub line: usize,
@@ -30,7 +30,7 @@ pub(crate) struct Cursor {
 }
 
 // The scan goes on from a cursor, or ends at a fault.
-#[derive(Drop)]
+#[derive(Clone, Copy)]
 pub(crate) enum Step {
     On(Cursor),
     Faulty(Fault),

@@ -16,7 +16,7 @@ use terms::Refusal;
 use terms::limits::TRACE_LIMIT;
 use typed_figures::figures::{FIGURES_LIMIT, TARIFF_FIGURES, tariff_of};
 
-#[derive(Drop)]
+#[derive(Clone, Copy)]
 pub enum TextAnswer {
     // the length of the file
     Written(usize),

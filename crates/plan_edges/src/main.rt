@@ -1,6 +1,8 @@
 // Prints what the calls on plan files answer at the edges of document 01, an edge to a line: the figures
 // and records or the refusal, and whether the rest of what was lent is kept. The cases stand in the file
 // stdin, which says its form; before them comes the printed plan byte by byte, and after them the longest.
+#![tactic(auto)]
+
 mod longest;
 mod printed;
 mod readings;

@@ -3,21 +3,21 @@ use terms::limits::TRACE_LIMIT;
 use terms::{BucketRecord, Refusal};
 
 // T, the number of buckets and the cost.
-#[derive(Drop)]
+#[derive(Clone, Copy)]
 pub struct PlanFigures {
     pub periods: u32,
     pub buckets: u32,
     pub cost: u64,
 }
 
-#[derive(Drop)]
+#[derive(Clone, Copy)]
 pub enum PlanAnswer {
     Read(PlanFigures),
     Refused(Refusal),
 }
 
 // What reading a plan file answers, and at the front of an array the records of the plan read.
-#[derive(Drop)]
+#[derive(Clone, Copy)]
 pub struct PlanRecords {
     pub answer: PlanAnswer,
     pub records: [BucketRecord; TRACE_LIMIT],

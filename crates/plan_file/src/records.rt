@@ -40,7 +40,7 @@ fn record_of(periods: u32, rate: u32, depth: u32) -> BucketRecord
 
 // The records weighed so far: whether each is in its range, and the sum of their run lengths, which
 // needs more than 32 bits.
-#[derive(Drop)]
+#[derive(Clone, Copy)]
 pub struct Tally {
     pub ok: bool,
     pub sum: u64,

@@ -16,20 +16,20 @@ use terms::limits::TRACE_LIMIT;
 use terms::{BucketRecord, Refusal};
 
 // What an order says and the plan found for it.
-#[derive(Drop)]
+#[derive(Clone, Copy)]
 pub struct PlannedOrder {
     pub order: Order,
     pub plan: Plan,
 }
 
-#[derive(Drop)]
+#[derive(Clone, Copy)]
 pub enum PlannedAnswer {
     Found(PlannedOrder),
     Refused(Refusal),
 }
 
 // The answer with the demands of an order that is read and the records of the plan found.
-#[derive(Drop)]
+#[derive(Clone, Copy)]
 pub struct PlannedRecords {
     pub answer: PlannedAnswer,
     pub demands: [u16; TRACE_LIMIT],

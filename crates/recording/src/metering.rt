@@ -15,7 +15,7 @@ use terms::{BucketRecord, Factor, Refusal};
 
 // What the meters of the runs ended with, summed over the runs. The tokens held at the end of a run
 // lapse.
-#[derive(Drop)]
+#[derive(Clone, Copy)]
 pub struct MeterTotals {
     pub sent: u64,
     pub over: u64,
@@ -40,7 +40,7 @@ impl MeterTotals {
 }
 
 // What metering a plan gives: the totals, or a meter's refusal.
-#[derive(Drop)]
+#[derive(Clone, Copy)]
 pub enum TotalsAnswer {
     Metered(MeterTotals),
     Refused(Refusal),

@@ -19,21 +19,21 @@ use terms::{BucketRecord, Factor, Refusal, factor_in_range};
 
 // A plan that is recorded: its figures as read back, the length of its file, and what the meters of
 // its runs ended with.
-#[derive(Drop)]
+#[derive(Clone, Copy)]
 pub struct Booking {
     pub plan: PlanFigures,
     pub length: usize,
     pub meters: MeterTotals,
 }
 
-#[derive(Drop)]
+#[derive(Clone, Copy)]
 pub enum BookingAnswer {
     Booked(Booking),
     Refused(Refusal),
 }
 
 // What recording a plan answers, and at the front of an array the records read back.
-#[derive(Drop)]
+#[derive(Clone, Copy)]
 pub struct BookingRecords {
     pub answer: BookingAnswer,
     pub records: [BucketRecord; TRACE_LIMIT],

@@ -1,5 +1,7 @@
 // What the test programs print, a field at a time. For them alone: no contract can say what a
 // program writes, so each program's output is held to a stored one.
+#![tactic(auto)]
+
 mod file_answers;
 mod file_bytes;
 mod lent_lists;

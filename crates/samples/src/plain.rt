@@ -6,7 +6,7 @@ use bucket::TrialAnswer;
 use terms::{Bucket, Depth, Factor, Rate};
 
 // The cheapest bucket so far, if there is one.
-#[derive(Drop)]
+#[derive(Clone, Copy)]
 pub struct Best {
     pub found: bool,
     pub rate: u8,

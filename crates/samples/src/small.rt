@@ -5,7 +5,7 @@ use crate::tariffs::{Prices, caps_of, prices_of};
 use terms::{Factor, Tariff};
 
 // A small tariff: one of four price lists, and a fee and caps of one byte.
-#[derive(Drop)]
+#[derive(Clone, Copy)]
 pub struct Small {
     pub prices: u8,
     pub fee: u8,

@@ -2,7 +2,7 @@
 use terms::{Depth, DepthPrice, Factor, Rate, RatePrice, Tariff};
 
 // The two prices and the fee of a tariff.
-#[derive(Drop)]
+#[derive(Clone, Copy)]
 pub struct Prices {
     pub rate: u32,
     pub depth: u32,
@@ -10,7 +10,7 @@ pub struct Prices {
 }
 
 // Its caps on rate and depth.
-#[derive(Drop)]
+#[derive(Clone, Copy)]
 pub struct Caps {
     pub rate: u32,
     pub depth: u32,

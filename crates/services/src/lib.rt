@@ -1,5 +1,7 @@
 // The services on one bucket, from an order file: the depth at a rate, also with its cause, the single
 // bucket and the trial, as figures and as a line of text each.
+#![tactic(auto)]
+
 mod explaining;
 pub mod figures;
 mod lines;

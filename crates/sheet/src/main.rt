@@ -1,4 +1,6 @@
 // Prints the sheet of the order on standard input, or the refusal line.
+#![tactic(auto)]
+
 use console::{ORDER_ROOM, has_words, print, read_all};
 use sheets::LONGEST_SHEET;
 

@@ -1,6 +1,8 @@
 // Prints the texts of the sheet at the edges of document 01: figures, refusal lines, and what the
 // services write of an order, or the refusal; and whether the rest of the text is kept. Cases stand in the
 // file stdin, which says its form; orders that a rule gives are made here.
+#![tactic(auto)]
+
 mod damaged;
 mod figures;
 mod long;

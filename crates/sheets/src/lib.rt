@@ -1,4 +1,6 @@
 // The printed sheet of the series, from an order file.
+#![tactic(auto)]
+
 mod plan_sheets;
 mod printed;
 mod runs;

@@ -10,7 +10,7 @@ use spans::narrow::CHARGE_END;
 use terms::{Bucket, Tariff};
 
 // A bucket and what it costs.
-#[derive(Drop)]
+#[derive(Clone, Copy)]
 pub struct Priced {
     pub bucket: Bucket,
     pub cost: u64,

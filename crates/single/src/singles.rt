@@ -11,7 +11,7 @@ use depth::{DepthAnswer, depth_at};
 use terms::{Bucket, Depth, Rate, Refusal, Tariff, periods_in_range, tariff_in_range};
 
 // What the single call answers: the bucket with its cost, or the refusal.
-#[derive(Drop)]
+#[derive(Clone, Copy)]
 pub enum SingleAnswer {
     Found(Priced),
     Refused(Refusal),

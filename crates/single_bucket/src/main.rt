@@ -1,4 +1,6 @@
 // Prints the single bucket for the order on standard input and its cost, or the refusal line.
+#![tactic(auto)]
+
 use console::{ORDER_ROOM, has_words, print, read_all};
 use services::{LONGEST_SINGLE, single_line};
 

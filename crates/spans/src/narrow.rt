@@ -15,7 +15,7 @@ use terms::{Factor, Rate, Tariff};
 pub const CHARGE_END: u64 = 100_000_000_000;
 
 // A need: at rate x at least sum less x for each of so many periods.
-#[derive(Drop)]
+#[derive(Clone, Copy)]
 pub struct Line {
     pub sum: u64,
     pub len: u64,

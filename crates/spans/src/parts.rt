@@ -10,7 +10,7 @@ use terms::Rate;
 
 // A walk, and how many periods it has gone through; how many of these set the opening, end here with a
 // need, and set the stretch.
-#[derive(Drop)]
+#[derive(Clone, Copy)]
 pub struct Parts {
     pub walk: Walk,
     pub periods: u32,

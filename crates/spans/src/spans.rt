@@ -6,7 +6,7 @@ ghost use Rattle.spans.specs.Spans.{Cut, Gone, Kept, Other, SpanRange, line_limi
 use terms::Rate;
 
 // The rates from lo to below hi.
-#[derive(Drop)]
+#[derive(Clone, Copy)]
 pub struct Span {
     pub lo: u32,
     pub hi: u32,

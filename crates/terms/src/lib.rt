@@ -1,5 +1,7 @@
 // The nouns that every part of the planner speaks in: rates, depths, their prices, the starting
 // factor, the bucket, the tariff, and the numbered refusals.
+#![tactic(auto)]
+
 pub mod limits;
 pub mod numbers;
 mod ranges;
@@ -12,43 +14,43 @@ pub use ranges::{
 pub use refusal::{Refusal, refusal_number};
 
 // Tokens gained in each period. One token pays for one kilobit.
-#[derive(Drop)]
+#[derive(Clone, Copy)]
 pub struct Rate(pub u32);
 
 // Tokens that a bucket holds at the most.
-#[derive(Drop)]
+#[derive(Clone, Copy)]
 pub struct Depth(pub u32);
 
 // What one token of rate costs for one period.
-#[derive(Drop)]
+#[derive(Clone, Copy)]
 pub struct RatePrice(pub u32);
 
 // What one token of depth costs for one period.
-#[derive(Drop)]
+#[derive(Clone, Copy)]
 pub struct DepthPrice(pub u32);
 
 // The starting factor p/q: a fresh bucket holds that part of its depth.
-#[derive(Drop)]
+#[derive(Clone, Copy)]
 pub struct Factor {
     pub p: u32,
     pub q: u32,
 }
 
-#[derive(Drop)]
+#[derive(Clone, Copy)]
 pub struct Bucket {
     pub rate: Rate,
     pub depth: Depth,
 }
 
 // A bucket of a plan and the length of its run.
-#[derive(Drop)]
+#[derive(Clone, Copy)]
 pub struct BucketRecord {
     pub periods: u32,
     pub bucket: Bucket,
 }
 
 // The seven figures of a tariff; the factor holds two of them.
-#[derive(Drop)]
+#[derive(Clone, Copy)]
 pub struct Tariff {
     pub rate_price: RatePrice,
     pub depth_price: DepthPrice,

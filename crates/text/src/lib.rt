@@ -1,4 +1,6 @@
 // The text of figures and of the sheet's lines, in ASCII.
+#![tactic(auto)]
+
 mod fields;
 pub mod figures;
 pub mod fills;

@@ -2,6 +2,8 @@
 // checksum of the file that is written, or the fault, and whether the rest of the bytes is kept; the
 // words around the places of texts; and the numbers that words stand for. The cases stand in the file
 // stdin, which says its form.
+#![tactic(auto)]
+
 mod answers;
 mod bytes;
 mod counts;

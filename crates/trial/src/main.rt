@@ -1,5 +1,7 @@
 // Prints the spare and the discards of a bucket on the trace of the order on standard input, or the
 // refusal line. The arguments are the bucket's rate and depth.
+#![tactic(auto)]
+
 use console::{ORDER_ROOM, has_words, number_argument, print, read_all};
 use services::{LONGEST_TRIAL, trial_line};
 use terms::{Bucket, Depth, Rate};

@@ -10,7 +10,7 @@ pub fn is_digit(byte: u8) -> bool
 }
 
 // What one more digit makes of a number.
-#[derive(Drop)]
+#[derive(Clone, Copy)]
 pub enum Push {
     Value(u32),
     // more than the limit

@@ -4,7 +4,7 @@ ghost use Rattle.typed_figures.specs.Decimal.{number_in, number_says};
 
 use crate::digits::{Push, is_digit, push_digit};
 
-#[derive(Drop)]
+#[derive(Clone, Copy)]
 pub enum NumberAnswer {
     Number(u32),
     // no digits, something else than digits, or a number above 4,294,967,295
