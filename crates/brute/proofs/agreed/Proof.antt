@@ -15,8 +15,8 @@ decreases-loop calls cases count₀ n₀ count n = cases - n
 loop-again : tie.Need-loop-preserved invariant-loop decreases-loop
 loop-again c = ⊎_elim (λ w. omega arith) (λ w. omega arith) c.if1.branch
 
-pub agreed-spec : {M : Type 1} → statement M
-agreed-spec =
+pub agreed_spec : {M : Type 1} → statement M
+agreed_spec =
     tie.close
     (tie.spec
     invariant-loop

@@ -40,13 +40,13 @@ behind ds done = omega (arith, length-take (length ds - done) (drop done ds))
 loop-holds : tie.Need-loop-init invariant-loop decreases-loop
 loop-holds c = (refl, omega arith)
 
-sub_read : tie.Need-overflow-sub-read invariant-loop decreases-loop
+sub_read : tie.Need-overflow_sub-read invariant-loop decreases-loop
 sub_read c = search rules
 
-part-read-start : tie.Need-slice-bounds-read-start invariant-loop decreases-loop
+part-read-start : tie.Need-slice_bounds-read-start invariant-loop decreases-loop
 part-read-start c = search rules
 
-part-read-end : tie.Need-slice-bounds-read-end invariant-loop decreases-loop
+part-read-end : tie.Need-slice_bounds-read-end invariant-loop decreases-loop
 part-read-end c = search rules
 
 read-requires : tie.Need-read-requires invariant-loop decreases-loop
@@ -55,7 +55,7 @@ read-requires c κs = search rules
 fail-requires : tie.Need-fail-requires invariant-loop decreases-loop
 fail-requires c κs = search rules
 
-same_length : tie.Need-same-length invariant-loop decreases-loop
+same_length : tie.Need-same_length invariant-loop decreases-loop
 same_length c = omega (arith, c.before.before.before.room.given, c.before.before.before.before.before.before.before.loop.invariant.0)
 
 returns : tie.Need-returns invariant-loop decreases-loop
@@ -64,43 +64,43 @@ returns c = (omega arith, refl)
 count-requires : tie.Need-count-requires invariant-loop decreases-loop
 count-requires c κs = search rules
 
-same-length-2 : tie.Need-same-length-2 invariant-loop decreases-loop
-same-length-2 c = omega (arith, c.before.before.before.before.before.room.given, c.before.before.before.before.before.before.before.before.before.loop.invariant.0)
+same_length-2 : tie.Need-same_length-2 invariant-loop decreases-loop
+same_length-2 c = omega (arith, c.before.before.before.before.before.room.given, c.before.before.before.before.before.before.before.before.before.loop.invariant.0)
 
 returns-2 : tie.Need-returns-2 invariant-loop decreases-loop
 returns-2 c = counted _ _ (omega (arith, c.before.before.before.before.before.room.given, c.before.before.before.before.before.before.before.before.before.loop.invariant.1))
 
-add_done : tie.Need-overflow-add-done invariant-loop decreases-loop
+add_done : tie.Need-overflow_add-done invariant-loop decreases-loop
 add_done c =
     let r = c.before.before.before.before.before.before in
     let l = r.before.before.before in
-    let m = inside _ _ _ _ _ r.read.ensures (to_z-of_z {w = w64} {z = r.read.result} (record { sfits = r.read.type-inv })) c.before.count.ensures.1 in
+    let m = inside _ _ _ _ _ r.read.ensures (to_z-of_z {w = w64} {z = r.read.result} (record { sfits = r.read.type_inv })) c.before.count.ensures.1 in
     omega (arith, m, behind l.loop.room l.loop.done, l.loop.invariant.1)
 
 loop-less : tie.Need-loop-smaller invariant-loop decreases-loop
 loop-less c =
     let r = c.before.before.before.before.before.before in
     let l = r.before.before.before in
-    let m = inside _ _ _ _ _ r.read.ensures (to_z-of_z {w = w64} {z = r.read.result} (record { sfits = r.read.type-inv })) c.before.count.ensures.1 in
+    let m = inside _ _ _ _ _ r.read.ensures (to_z-of_z {w = w64} {z = r.read.result} (record { sfits = r.read.type_inv })) c.before.count.ensures.1 in
     omega (arith, m, behind l.loop.room l.loop.done, l.loop.invariant.1, c.before.before.before.before.before.room.given, c.if2.false)
 
 loop-again : tie.Need-loop-preserved invariant-loop decreases-loop
 loop-again c =
     let r = c.before.before.before.before.before.before in
     let l = r.before.before.before in
-    let m = inside _ _ _ _ _ r.read.ensures (to_z-of_z {w = w64} {z = r.read.result} (record { sfits = r.read.type-inv })) c.before.count.ensures.1 in (
+    let m = inside _ _ _ _ _ r.read.ensures (to_z-of_z {w = w64} {z = r.read.result} (record { sfits = r.read.type_inv })) c.before.count.ensures.1 in (
       omega (arith, c.before.before.before.before.before.room.given, l.loop.invariant.0),
       omega (arith, m, behind l.loop.room l.loop.done, l.loop.invariant.1, c.before.before.before.before.before.room.given),
     )
 
-same-length-3 : tie.Need-same-length-3 invariant-loop decreases-loop
-same-length-3 c = c.before.loop.invariant.0
+same_length-3 : tie.Need-same_length-3 invariant-loop decreases-loop
+same_length-3 c = c.before.loop.invariant.0
 
 returns-3 : tie.Need-returns-3 invariant-loop decreases-loop
 returns-3 c = counted _ _ c.before.loop.invariant.1
 
-pub read-all-spec : {M : Type 1} → statement M
-read-all-spec =
+pub read_all_spec : {M : Type 1} → statement M
+read_all_spec =
     tie.close
     (tie.spec
     invariant-loop
@@ -114,10 +114,10 @@ read-all-spec =
     same_length
     returns
     count-requires
-    same-length-2
+    same_length-2
     returns-2
     add_done
     loop-less
     loop-again
-    same-length-3
+    same_length-3
     returns-3)

@@ -10,8 +10,8 @@ invariant-loop input n₀ n-end n = n ≤ n-end
 abbrev decreases-loop : tie.decreases-loop
 decreases-loop input n₀ n-end n = n-end - n
 
-pub each-case-spec : {M : Type 1} → statement M
-each-case-spec =
+pub each_case_spec : {M : Type 1} → statement M
+each_case_spec =
     tie.close
     (tie.spec
     invariant-loop

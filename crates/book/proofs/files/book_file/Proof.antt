@@ -556,14 +556,14 @@ meets {𝓤 = 𝓤} 𝓛 at_mem run 𝓣 known-blank-demands known-blank-records
     (WpFn 𝓤 𝓛.H 𝓣.C 𝓣.Λ code.function) (WpFn-mono 𝓤 𝓛.H 𝓛.laws 𝓣 code.function)
     (walks 𝓛 at_mem run 𝓣 known-blank-demands known-blank-records known-book)
 
-pub book-file-spec : {M : Type 1} → stated.statement M
+pub book_file_spec : {M : Type 1} → stated.statement M
 unfolding code.routine tables_of
-book-file-spec 𝓤 𝓛 𝓜 𝓡 =
+book_file_spec 𝓤 𝓛 𝓜 𝓡 =
     entered 𝓤 𝓛.H (triple_of 𝓛 self.signature (self.spec 𝓛 𝓜.mem 𝓡.run))
     (tables 𝓤 𝓛.H 𝓜 𝓡 code.env).C (tables 𝓤 𝓛.H 𝓜 𝓡 code.env).Λ #key code.function (code.unfolded 𝓤 𝓛.H 𝓜 𝓡)
     (meets 𝓛 𝓜.mem 𝓡.run (tables_of 𝓤 𝓛.H 𝓜 (tables 𝓤 𝓛.H 𝓜 𝓡 code.env))
     (cited 𝓤 𝓛.H (BlankDemands 𝓛 𝓜.mem 𝓡.run)
-    𝓜 𝓡 code.env #blank-demands blank-demands-def.routine code.calls-book::files::blank-demands (blank-demands-thm.met 𝓤 𝓛 𝓜 𝓡))
+    𝓜 𝓡 code.env #blank-demands blank-demands-def.routine code.calls-book::files::blank_demands (blank-demands-thm.met 𝓤 𝓛 𝓜 𝓡))
     (cited 𝓤 𝓛.H (BlankRecords 𝓛 𝓜.mem 𝓡.run)
-    𝓜 𝓡 code.env #blank-records blank-records-def.routine code.calls-record-list::arrays::blank-records (blank-records-thm.met 𝓤 𝓛 𝓜 𝓡))
+    𝓜 𝓡 code.env #blank-records blank-records-def.routine code.calls-record_list::arrays::blank_records (blank-records-thm.met 𝓤 𝓛 𝓜 𝓡))
     (cited 𝓤 𝓛.H (Book 𝓛 𝓜.mem 𝓡.run) 𝓜 𝓡 code.env #book book-def.routine code.calls-booking::book (book-thm.met 𝓤 𝓛 𝓜 𝓡)))

@@ -634,15 +634,15 @@ meets {𝓤 = 𝓤} 𝓛 at_mem run 𝓣 known-book-records known-buckets-of kno
     (WpFn 𝓤 𝓛.H 𝓣.C 𝓣.Λ code.function) (WpFn-mono 𝓤 𝓛.H 𝓛.laws 𝓣 code.function)
     (walks 𝓛 at_mem run 𝓣 known-book-records known-buckets-of known-store-records)
 
-pub book-spec : {M : Type 1} → stated.statement M
+pub book_spec : {M : Type 1} → stated.statement M
 unfolding code.routine tables_of
-book-spec 𝓤 𝓛 𝓜 𝓡 =
+book_spec 𝓤 𝓛 𝓜 𝓡 =
     entered 𝓤 𝓛.H (triple_of 𝓛 self.signature (self.spec 𝓛 𝓜.mem 𝓡.run))
     (tables 𝓤 𝓛.H 𝓜 𝓡 code.env).C (tables 𝓤 𝓛.H 𝓜 𝓡 code.env).Λ #key code.function (code.unfolded 𝓤 𝓛.H 𝓜 𝓡)
     (meets 𝓛 𝓜.mem 𝓡.run (tables_of 𝓤 𝓛.H 𝓜 (tables 𝓤 𝓛.H 𝓜 𝓡 code.env))
     (cited 𝓤 𝓛.H (BookRecords 𝓛 𝓜.mem 𝓡.run)
-    𝓜 𝓡 code.env #book-records book-records-def.routine code.calls-booking::records::book-records (book-records-thm.met 𝓤 𝓛 𝓜 𝓡))
+    𝓜 𝓡 code.env #book-records book-records-def.routine code.calls-booking::records::book_records (book-records-thm.met 𝓤 𝓛 𝓜 𝓡))
     (cited 𝓤 𝓛.H (BucketsOf 𝓛 𝓜.mem 𝓡.run)
-    𝓜 𝓡 code.env #buckets-of buckets-of-def.routine code.calls-booking::bookings::buckets-of (buckets-of-thm.met 𝓤 𝓛 𝓜 𝓡))
+    𝓜 𝓡 code.env #buckets-of buckets-of-def.routine code.calls-booking::bookings::buckets_of (buckets-of-thm.met 𝓤 𝓛 𝓜 𝓡))
     (cited 𝓤 𝓛.H (StoreRecords 𝓛 𝓜.mem 𝓡.run)
-    𝓜 𝓡 code.env #store-records store-records-def.routine code.calls-record-list::copies::store-records (store-records-thm.met 𝓤 𝓛 𝓜 𝓡)))
+    𝓜 𝓡 code.env #store-records store-records-def.routine code.calls-record_list::copies::store_records (store-records-thm.met 𝓤 𝓛 𝓜 𝓡)))

@@ -7,44 +7,44 @@ use borrow.Author.Rules.{rules}
 use Rattle.booking.proofs.calls.make_calls.Statement.{statement}
 use Rattle.booking.proofs.calls.make_calls.Tie as tie
 
-abbrev found_at : tie.After-struct-known → tie.After-answer
+abbrev found_at : tie.After-struct_known → tie.After-answer
 found_at c = c.before.before.before
 
-abbrev plan-at : tie.After-answer → tie.After-plan-order
+abbrev plan-at : tie.After-answer → tie.After-plan_order
 plan-at c = c.before.before.before.before
 
 returns : tie.Need-returns
 returns c =
     let p = c.before.before.before.before.before in
-    planning-refused _ _ _ _ _ p.plan-order.result p.plan-order.ensures _ (ap planned_says c.before.answer2.given.1)
+    planning-refused _ _ _ _ _ p.plan_order.result p.plan_order.ensures _ (ap planned_says c.before.answer2.given.1)
 
-cast-periods : tie.Need-overflow-cast-periods
+cast-periods : tie.Need-overflow_cast-periods
 cast-periods c = search rules
 
-array-share-prefix-demands : tie.Need-array-share-prefix-demands
-array-share-prefix-demands c =
+array_share_prefix-demands : tie.Need-array_share_prefix-demands
+array_share_prefix-demands c =
     let a = found_at c in
-    trace-inside _ _ _ _ (plan-at a).plan-order.ensures _ (ap planned_says a.answer.given.1)
+    trace-inside _ _ _ _ (plan-at a).plan_order.ensures _ (ap planned_says a.answer.given.1)
 
-slice-aggregate-record-plan : tie.Need-slice-aggregate-record-plan
-slice-aggregate-record-plan c =
+slice_aggregate-record_plan : tie.Need-slice_aggregate-record_plan
+slice_aggregate-record_plan c =
     let a = found_at c.before in
-    sym (trace-count _ _ _ _ (plan-at a).plan-order.ensures _ (ap planned_says a.answer.given.1))
+    sym (trace-count _ _ _ _ (plan-at a).plan_order.ensures _ (ap planned_says a.answer.given.1))
 
-record-plan-requires : tie.Need-record-plan-requires
-record-plan-requires c κs =
+record_plan-requires : tie.Need-record_plan-requires
+record_plan-requires c κs =
     let a = found_at c.before.before in
-    sym (trace-count _ _ _ _ (plan-at a).plan-order.ensures _ (ap planned_says a.answer.given.1))
+    sym (trace-count _ _ _ _ (plan-at a).plan_order.ensures _ (ap planned_says a.answer.given.1))
 
 returns-2 : tie.Need-returns-2
 returns-2 c =
     let r = c.before.before.before in
     let a = found_at r.before.before.before in
     let p = plan-at a in
-    plan-recorded _ _ _ _ _ p.plan-order.result p.plan-order.ensures _ (ap planned_says a.answer.given.1) _ r.record-plan.result r.record-plan.ensures
+    plan-recorded _ _ _ _ _ p.plan_order.result p.plan_order.ensures _ (ap planned_says a.answer.given.1) _ r.record_plan.result r.record_plan.ensures
 
-pub make-calls-spec : {M : Type 1} → statement M
-make-calls-spec =
+pub make_calls_spec : {M : Type 1} → statement M
+make_calls_spec =
     tie.close
     (tie.spec
     (λ c κs. search rules)
@@ -52,8 +52,8 @@ make-calls-spec =
     (λ c. search rules)
     returns
     cast-periods
-    array-share-prefix-demands
-    slice-aggregate-record-plan
-    record-plan-requires
+    array_share_prefix-demands
+    slice_aggregate-record_plan
+    record_plan-requires
     (λ c. search rules)
     returns-2)

@@ -10,8 +10,8 @@ invariant-loop order demands list x factor start₀ i₀ t12 t13 start i = (i �
 abbrev decreases-loop : tie.decreases-loop
 decreases-loop order demands list x factor start₀ i₀ t12 t13 start i = 516 - i
 
-pub print-runs-spec : {M : Type 1} → statement M
-print-runs-spec =
+pub print_runs_spec : {M : Type 1} → statement M
+print_runs_spec =
     tie.close
     (tie.spec
     invariant-loop

@@ -10,8 +10,8 @@ invariant-loop trace small start end best₀ n₀ best n = start ≤ n
 abbrev decreases-loop : tie.decreases-loop
 decreases-loop trace small start end best₀ n₀ best n = end - n
 
-pub among-spec : {M : Type 1} → statement M
-among-spec =
+pub among_spec : {M : Type 1} → statement M
+among_spec =
     tie.close
     (tie.spec
     invariant-loop

@@ -10,8 +10,8 @@ invariant-loop trace turned small rate₀ rate-end rate = rate ≤ rate-end
 abbrev decreases-loop : tie.decreases-loop
 decreases-loop trace turned small rate₀ rate-end rate = rate-end - rate
 
-pub depths-agree-spec : {M : Type 1} → statement M
-depths-agree-spec =
+pub depths_agree_spec : {M : Type 1} → statement M
+depths_agree_spec =
     tie.close
     (tie.spec
     invariant-loop

@@ -10,8 +10,8 @@ invariant-loop trace factor rate depth smaller n₀ n = n ≤ 10
 abbrev decreases-loop : tie.decreases-loop
 decreases-loop trace factor rate depth smaller n₀ n = 10 - n
 
-pub first-short-spec : {M : Type 1} → statement M
-first-short-spec =
+pub first_short_spec : {M : Type 1} → statement M
+first_short_spec =
     tie.close
     (tie.spec
     invariant-loop

@@ -6,15 +6,15 @@ use Rattle.bucket.specs.Step.{start_of}
 use Rattle.bucket.proofs.period.starting_tokens.Statement.{statement}
 use Rattle.bucket.proofs.period.starting_tokens.Tie as tie
 
-mul-result : tie.Need-overflow-mul-result
+mul-result : tie.Need-overflow_mul-result
 mul-result c = let h = c.before.before.requires in omega (arith, mul-le-mul (le_trans h.factor.part h.factor.few) h.bucket.depths)
 
-div-result : tie.Need-nonzero-div-result
+div-result : tie.Need-nonzero_div-result
 div-result c = search rules
 
 returns : tie.Need-returns
 unfolding start_of
 returns c = search rules
 
-pub starting-tokens-spec : {M : Type 1} → statement M
-starting-tokens-spec = tie.close (tie.spec mul-result div-result returns)
+pub starting_tokens_spec : {M : Type 1} → statement M
+starting_tokens_spec = tie.close (tie.spec mul-result div-result returns)

@@ -11,22 +11,22 @@ period-by : (r B y d s n : ℕ) → s ≡ min d (y + r) → n ≡ min B (y + r -
     → record { sent = s; over = d - s; lost = y + r - s - n; held = n } ≡ period_of r B y d
 period-by r B y d s n es en = cc
 
-add-tokens : tie.Need-overflow-add-tokens
+add-tokens : tie.Need-overflow_add-tokens
 add-tokens c = search rules
 
 lesser-requires : tie.Need-lesser-requires
 lesser-requires c κs = search rules
 
-sub-left : tie.Need-overflow-sub-left
+sub-left : tie.Need-overflow_sub-left
 sub-left c = search rules
 
 lesser-requires-2 : tie.Need-lesser-requires-2
 lesser-requires-2 c κs = search rules
 
-sub-t9 : tie.Need-overflow-sub-t9
+sub-t9 : tie.Need-overflow_sub-t9
 sub-t9 c = search rules
 
-sub-t10 : tie.Need-overflow-sub-t10
+sub-t10 : tie.Need-overflow_sub-t10
 sub-t10 c = search rules
 
 returns : tie.Need-returns

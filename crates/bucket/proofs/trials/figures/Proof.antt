@@ -38,33 +38,33 @@ invariant-loop bucket trace rate held₀ spare₀ over₀ i₀ held spare over i
 abbrev decreases-loop : tie.decreases-loop
 decreases-loop bucket trace rate held₀ spare₀ over₀ i₀ held spare over i = length trace - i
 
-starting-tokens-requires : tie.Need-starting-tokens-requires invariant-loop decreases-loop
-starting-tokens-requires c κs = c.before.before.requires.0
+starting_tokens-requires : tie.Need-starting_tokens-requires invariant-loop decreases-loop
+starting_tokens-requires c κs = c.before.before.requires.0
 
 -- a fresh bucket holds at most its depth
-started : (c : tie.After-starting-tokens invariant-loop decreases-loop) → c.starting-tokens.result ≤ depth_limit
+started : (c : tie.After-starting_tokens invariant-loop decreases-loop) → c.starting_tokens.result ≤ depth_limit
 started c =
     let h = c.before.before.before.requires in
     let a = c.before.before.before.args in
-    omega (arith, c.starting-tokens.ensures, start_le a.factor.p a.factor.q a.bucket.depth.0 h.0.factor.part, h.0.bucket.depths)
+    omega (arith, c.starting_tokens.ensures, start_le a.factor.p a.factor.q a.bucket.depth.0 h.0.factor.part, h.0.bucket.depths)
 
-shared-slice-read-to-spare : tie.Need-shared-slice-read-to-spare invariant-loop decreases-loop
-shared-slice-read-to-spare c = search rules
+shared_slice_read-to_spare : tie.Need-shared_slice_read-to_spare invariant-loop decreases-loop
+shared_slice_read-to_spare c = search rules
 
-to-spare-requires : tie.Need-to-spare-requires invariant-loop decreases-loop
-to-spare-requires c κs = let h = c.before.before.before.before.requires in (h.0.bucket.rates, started c.before)
+to_spare-requires : tie.Need-to_spare-requires invariant-loop decreases-loop
+to_spare-requires c κs = let h = c.before.before.before.before.requires in (h.0.bucket.rates, started c.before)
 
 loop-holds : tie.Need-loop-init invariant-loop decreases-loop
-loop-holds c = let h = c.before.before.before.before.before.requires in walking_start _ _ _ _ _ (started c.before.before) h.1.some (back c.to-spare.type-inv ∙ c.to-spare.ensures)
+loop-holds c = let h = c.before.before.before.before.before.requires in walking_start _ _ _ _ _ (started c.before.before) h.1.some (back c.to_spare.type_inv ∙ c.to_spare.ensures)
 
-mul-demand : tie.Need-overflow-mul-demand invariant-loop decreases-loop
+mul-demand : tie.Need-overflow_mul-demand invariant-loop decreases-loop
 mul-demand c = search rules
 
-shared-slice-read-demand : tie.Need-shared-slice-read-demand invariant-loop decreases-loop
-shared-slice-read-demand c = search rules
+shared_slice_read-demand : tie.Need-shared_slice_read-demand invariant-loop decreases-loop
+shared_slice_read-demand c = search rules
 
-to-spare-requires-2 : tie.Need-to-spare-requires-2 invariant-loop decreases-loop
-to-spare-requires-2 c κs = let h = c.before.before.before.before.before.before.before.before.requires in (h.0.bucket.rates, c.before.before.loop.invariant.tokens)
+to_spare-requires-2 : tie.Need-to_spare-requires-2 invariant-loop decreases-loop
+to_spare-requires-2 c κs = let h = c.before.before.before.before.before.before.before.before.requires in (h.0.bucket.rates, c.before.before.loop.invariant.tokens)
 
 lesser-requires : tie.Need-lesser-requires invariant-loop decreases-loop
 lesser-requires c κs = search rules
@@ -77,14 +77,14 @@ loop-again c =
     let d = c.before.before.before.before.before.before in
     let h = d.before.before.before.before.before.before.requires in
     walking_step d.loop.invariant h.0.bucket.depths c.before.before.before.before.before.loop-test.true
-    (omega (arith, c.before.before.before.before.shared-slice-known3.given d.loop.i))
+    (omega (arith, c.before.before.before.before.shared_slice_known3.given d.loop.i))
     c.before.step.ensures
-    (back c.before.before.lesser.type-inv ∙ c.before.before.lesser.ensures ∙ ap (min_z (to_z w64 d.loop.spare)) (back c.before.before.before.to-spare2.type-inv ∙ c.before.before.before.to-spare2.ensures))
+    (back c.before.before.lesser.type_inv ∙ c.before.before.lesser.ensures ∙ ap (min_z (to_z w64 d.loop.spare)) (back c.before.before.before.to_spare2.type_inv ∙ c.before.before.before.to_spare2.ensures))
 
-add-over : tie.Need-overflow-add-over invariant-loop decreases-loop
+add-over : tie.Need-overflow_add-over invariant-loop decreases-loop
 add-over c = omega (arith, (loop-again c).small)
 
-add-i : tie.Need-overflow-add-i invariant-loop decreases-loop
+add-i : tie.Need-overflow_add-i invariant-loop decreases-loop
 add-i c = search rules
 
 loop-less : tie.Need-loop-smaller invariant-loop decreases-loop
@@ -94,21 +94,21 @@ returns : tie.Need-returns invariant-loop decreases-loop
 returns c =
     let k = c.before.loop.invariant in
     let l = c.loop-test.false in
-    figures-by _ _ _ _ _ _ c.before.before.before.before.starting-tokens.ensures (spare_end k l) (over_end k l)
+    figures-by _ _ _ _ _ _ c.before.before.before.before.starting_tokens.ensures (spare_end k l) (over_end k l)
 
-pub figures-spec : {M : Type 1} → statement M
-figures-spec =
+pub figures_spec : {M : Type 1} → statement M
+figures_spec =
     tie.close
     (tie.spec
     invariant-loop
     decreases-loop
-    starting-tokens-requires
-    shared-slice-read-to-spare
-    to-spare-requires
+    starting_tokens-requires
+    shared_slice_read-to_spare
+    to_spare-requires
     loop-holds
     mul-demand
-    shared-slice-read-demand
-    to-spare-requires-2
+    shared_slice_read-demand
+    to_spare-requires-2
     lesser-requires
     step-requires
     add-over

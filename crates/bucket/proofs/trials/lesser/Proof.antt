@@ -20,5 +20,5 @@ returns c = let f = c.before.ranges in first _ _ _ _ (to_z-of_z f.a) (to_z-of_z 
 returns-2 : tie.Need-returns-2
 returns-2 c = let f = c.before.ranges in second _ _ _ _ (to_z-of_z f.a) (to_z-of_z f.b) c.if1.false
 
-pub lesser-spec : {M : Type 1} → statement M
-lesser-spec = tie.close (tie.spec returns returns-2)
+pub lesser_spec : {M : Type 1} → statement M
+lesser_spec = tie.close (tie.spec returns returns-2)

@@ -25,23 +25,23 @@ apart_fits a b h k = rw (apart a b h k, sub_is a b) (go (ltb a b) refl)
     go true e = record { sfits = omega (arith, ltb-true) }
     go false e = record { sfits = omega arith }
 
-add-tokens : tie.Need-overflow-add-tokens
+add-tokens : tie.Need-overflow_add-tokens
 add-tokens c = search rules
 
-cast-tokens : tie.Need-overflow-cast-tokens
+cast-tokens : tie.Need-overflow_cast-tokens
 cast-tokens c = search rules
 
-cast-wanted : tie.Need-overflow-cast-wanted
+cast-wanted : tie.Need-overflow_cast-wanted
 cast-wanted c = search rules
 
-small : (c : tie.After-struct-known) → (c.before.args.held + c.before.args.rate.0 < 2 ^ 63) × (c.before.args.demand < 2 ^ 63)
+small : (c : tie.After-struct_known) → (c.before.args.held + c.before.args.rate.0 < 2 ^ 63) × (c.before.args.demand < 2 ^ 63)
 small c = omega arith
 
-sub-result : tie.Need-overflow-sub-result
+sub-result : tie.Need-overflow_sub-result
 sub-result c = search (apart_fits, small c)
 
 returns : tie.Need-returns
 returns c = to_z-of_z (sub-result c) ∙ apart _ _ (small c).0 (small c).1
 
-pub to-spare-spec : {M : Type 1} → statement M
-to-spare-spec = tie.close (tie.spec add-tokens cast-tokens cast-wanted sub-result returns)
+pub to_spare_spec : {M : Type 1} → statement M
+to_spare_spec = tie.close (tie.spec add-tokens cast-tokens cast-wanted sub-result returns)

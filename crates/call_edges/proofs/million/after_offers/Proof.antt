@@ -16,8 +16,8 @@ loop-holds c = tt
 loop-again : tie.Need-loop-preserved invariant-loop decreases-loop
 loop-again c = tt
 
-pub after-offers-spec : {M : Type 1} → statement M
-after-offers-spec =
+pub after_offers_spec : {M : Type 1} → statement M
+after_offers_spec =
     tie.close
     (tie.spec
     invariant-loop

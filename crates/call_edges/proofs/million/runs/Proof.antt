@@ -6,20 +6,20 @@ use lib.ListN.{length-replicate}
 use Rattle.call_edges.proofs.million.runs.Statement.{statement}
 use Rattle.call_edges.proofs.million.runs.Tie as tie
 
-slice-aggregate-run-2 : tie.Need-slice-aggregate-run-2
-slice-aggregate-run-2 c = sym (length-replicate {0} {A = ℕ} 1000000 6)
+slice_aggregate-run-2 : tie.Need-slice_aggregate-run-2
+slice_aggregate-run-2 c = sym (length-replicate {0} {A = ℕ} 1000000 6)
 
-slice-aggregate-run-4 : tie.Need-slice-aggregate-run-4
-slice-aggregate-run-4 c = sym (length-replicate {0} {A = ℕ} 1000001 6)
+slice_aggregate-run-4 : tie.Need-slice_aggregate-run-4
+slice_aggregate-run-4 c = sym (length-replicate {0} {A = ℕ} 1000001 6)
 
-pub runs-spec : {M : Type 1} → statement M
-runs-spec =
+pub runs_spec : {M : Type 1} → statement M
+runs_spec =
     tie.close
     (tie.spec
     (λ c. search rules)
-    slice-aggregate-run-2
+    slice_aggregate-run-2
     (λ c κs. search rules)
     (λ c. search rules)
-    slice-aggregate-run-4
+    slice_aggregate-run-4
     (λ c κs. search rules)
     (λ c. search rules))

@@ -10,8 +10,8 @@ invariant-loop field room₀ filled₀ passed₀ i₀ i-end room filled passed i
 abbrev decreases-loop : tie.decreases-loop
 decreases-loop field room₀ filled₀ passed₀ i₀ i-end room filled passed i = i-end - i
 
-pub plain-spec : {M : Type 1} → statement M
-plain-spec =
+pub plain_spec : {M : Type 1} → statement M
+plain_spec =
     tie.close
     (tie.spec
     invariant-loop

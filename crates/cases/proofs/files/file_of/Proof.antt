@@ -12,8 +12,8 @@ invariant-loop field bytes₀ i₀ bytes i = (i ≤ 128) × (128 ≡ length byte
 abbrev decreases-loop : tie.decreases-loop
 decreases-loop field bytes₀ i₀ bytes i = 128 - i
 
-pub file-of-spec : {M : Type 1} → statement M
-file-of-spec =
+pub file_of_spec : {M : Type 1} → statement M
+file_of_spec =
     tie.close
     (tie.spec
     invariant-loop

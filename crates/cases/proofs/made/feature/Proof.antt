@@ -10,8 +10,8 @@ invariant-loop room₀ i₀ room i = i ≤ 512
 abbrev decreases-loop : tie.decreases-loop
 decreases-loop room₀ i₀ room i = 512 - i
 
-pub feature-spec : {M : Type 1} → statement M
-feature-spec =
+pub feature_spec : {M : Type 1} → statement M
+feature_spec =
     tie.close
     (tie.spec
     invariant-loop

@@ -10,8 +10,8 @@ invariant-loop room₀ i₀ room i = i ≤ 512
 abbrev decreases-loop : tie.decreases-loop
 decreases-loop room₀ i₀ room i = 512 - i
 
-pub uneven-spec : {M : Type 1} → statement M
-uneven-spec =
+pub uneven_spec : {M : Type 1} → statement M
+uneven_spec =
     tie.close
     (tie.spec
     invariant-loop

@@ -10,8 +10,8 @@ invariant-loop word n₀ i₀ i-end n i = i ≤ i-end
 abbrev decreases-loop : tie.decreases-loop
 decreases-loop word n₀ i₀ i-end n i = i-end - i
 
-pub number-spec : {M : Type 1} → statement M
-number-spec =
+pub number_spec : {M : Type 1} → statement M
+number_spec =
     tie.close
     (tie.spec
     invariant-loop

@@ -10,8 +10,8 @@ invariant-loop text start separator i₀ i-end i = (start ≤ i) × (i ≤ i-end
 abbrev decreases-loop : tie.decreases-loop
 decreases-loop text start separator i₀ i-end i = i-end - i
 
-pub end-of-spec : {M : Type 1} → statement M
-end-of-spec =
+pub end_of_spec : {M : Type 1} → statement M
+end_of_spec =
     tie.close
     (tie.spec
     invariant-loop

@@ -10,8 +10,8 @@ invariant-loop text separator count₀ i₀ i-end count i = i ≤ i-end
 abbrev decreases-loop : tie.decreases-loop
 decreases-loop text separator count₀ i₀ i-end count i = i-end - i
 
-pub parts-spec : {M : Type 1} → statement M
-parts-spec =
+pub parts_spec : {M : Type 1} → statement M
+parts_spec =
     tie.close
     (tie.spec
     invariant-loop

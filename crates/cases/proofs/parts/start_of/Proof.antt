@@ -10,8 +10,8 @@ invariant-loop text n separator left₀ i₀ i-end left i = i ≤ i-end
 abbrev decreases-loop : tie.decreases-loop
 decreases-loop text n separator left₀ i₀ i-end left i = i-end - i
 
-pub start-of-spec : {M : Type 1} → statement M
-start-of-spec =
+pub start_of_spec : {M : Type 1} → statement M
+start_of_spec =
     tie.close
     (tie.spec
     invariant-loop

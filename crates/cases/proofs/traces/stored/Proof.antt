@@ -10,8 +10,8 @@ invariant-loop room₀ from times demand place₀ counter₀ room place counter 
 abbrev decreases-loop : tie.decreases-loop
 decreases-loop room₀ from times demand place₀ counter₀ room place counter = times - counter
 
-pub stored-spec : {M : Type 1} → statement M
-stored-spec =
+pub stored_spec : {M : Type 1} → statement M
+stored_spec =
     tie.close
     (tie.spec
     invariant-loop

@@ -79,26 +79,26 @@ decreases-loop trace rate tokens demands₀ tokens₀ i₀ demands tokens' i = l
 loop-holds : tie.Need-loop-init invariant-loop decreases-loop
 loop-holds c = start _ _ _
 
-mul-demands : tie.Need-overflow-mul-demands invariant-loop decreases-loop
+mul-demands : tie.Need-overflow_mul-demands invariant-loop decreases-loop
 mul-demands c = search rules
 
-shared-slice-read-demands : tie.Need-shared-slice-read-demands invariant-loop decreases-loop
-shared-slice-read-demands c = search rules
+shared_slice_read-demands : tie.Need-shared_slice_read-demands invariant-loop decreases-loop
+shared_slice_read-demands c = search rules
 
-cast-demands : tie.Need-overflow-cast-demands invariant-loop decreases-loop
-cast-demands c = omega (arith, c.shared-slice-known.given c.before.before.loop.i)
+cast-demands : tie.Need-overflow_cast-demands invariant-loop decreases-loop
+cast-demands c = omega (arith, c.shared_slice_known.given c.before.before.loop.i)
 
-add-demands : tie.Need-overflow-add-demands invariant-loop decreases-loop
+add-demands : tie.Need-overflow_add-demands invariant-loop decreases-loop
 add-demands c =
     let s = c.before.before.before in
-    omega (arith, demands_fit c.before.before.loop.invariant c.before.loop-test.true (record { each = λ i. omega (arith, c.shared-slice-known.given i) }) s.requires.0.few)
+    omega (arith, demands_fit c.before.before.loop.invariant c.before.loop-test.true (record { each = λ i. omega (arith, c.shared_slice_known.given i) }) s.requires.0.few)
 
-add-tokens : tie.Need-overflow-add-tokens invariant-loop decreases-loop
+add-tokens : tie.Need-overflow_add-tokens invariant-loop decreases-loop
 add-tokens c =
     let s = c.before.before.before.before in
     omega (arith, tokens-fit c.before.before.before.loop.invariant c.before.before.loop-test.true s.requires.1.0 s.requires.1.1 s.requires.0.few)
 
-add-i : tie.Need-overflow-add-i invariant-loop decreases-loop
+add-i : tie.Need-overflow_add-i invariant-loop decreases-loop
 add-i c = search rules
 
 returns : tie.Need-returns invariant-loop decreases-loop
@@ -115,15 +115,15 @@ loop-again c = next c.before.before.before.before.loop.invariant c.before.before
 returns-2 : tie.Need-returns-2 invariant-loop decreases-loop
 returns-2 c = sym (ap (λ (a : Answer ℕ). figure_or a 0) (end c.before.loop.invariant c.loop-test.false))
 
-pub opening-end-spec : {M : Type 1} → statement M
-opening-end-spec =
+pub opening_end_spec : {M : Type 1} → statement M
+opening_end_spec =
     tie.close
     (tie.spec
     invariant-loop
     decreases-loop
     loop-holds
     mul-demands
-    shared-slice-read-demands
+    shared_slice_read-demands
     cast-demands
     add-demands
     add-tokens

@@ -77,31 +77,31 @@ decreases-loop trace bucket need₀ last₀ need last = length trace - last
 loop-holds : tie.Need-loop-init invariant-loop decreases-loop
 loop-holds c = start _ _ _ c.before.requires.0.some
 
-mul-short-by : tie.Need-overflow-mul-short-by invariant-loop decreases-loop
-mul-short-by c = search rules
+mul-short_by : tie.Need-overflow_mul-short_by invariant-loop decreases-loop
+mul-short_by c = search rules
 
-shared-slice-read-short-by : tie.Need-shared-slice-read-short-by invariant-loop decreases-loop
-shared-slice-read-short-by c = search rules
+shared_slice_read-short_by : tie.Need-shared_slice_read-short_by invariant-loop decreases-loop
+shared_slice_read-short_by c = search rules
 
-cast-short-by : tie.Need-overflow-cast-short-by invariant-loop decreases-loop
-cast-short-by c = omega (arith, c.shared-slice-known2.given c.before.before.loop.last)
+cast-short_by : tie.Need-overflow_cast-short_by invariant-loop decreases-loop
+cast-short_by c = omega (arith, c.shared_slice_known2.given c.before.before.loop.last)
 
-add-short-by : tie.Need-overflow-add-short-by invariant-loop decreases-loop
-add-short-by c =
+add-short_by : tie.Need-overflow_add-short_by invariant-loop decreases-loop
+add-short_by c =
     let s = c.before.before.before.before in
-    omega (arith, c.shared-slice-known2.given c.before.before.loop.last, c.before.before.loop.invariant.enough, s.requires.1.depths)
+    omega (arith, c.shared_slice_known2.given c.before.before.loop.last, c.before.before.loop.invariant.enough, s.requires.1.depths)
 
-short-by-requires : tie.Need-short-by-requires invariant-loop decreases-loop
-short-by-requires c κs = search rules
+short_by-requires : tie.Need-short_by-requires invariant-loop decreases-loop
+short_by-requires c κs = search rules
 
-add-last : tie.Need-overflow-add-last invariant-loop decreases-loop
+add-last : tie.Need-overflow_add-last invariant-loop decreases-loop
 add-last c = search rules
 
 returns : tie.Need-returns invariant-loop decreases-loop
 returns c =
     let l = c.before.before.before.before in
     let s = l.before.before.before in
-    sym (ap (λ (a : Answer ℕ). figure_or a (length s.args.trace.now)) (found l.before.loop.invariant l.loop-test.true _ c.before.before.short-by.ensures c.if1.true))
+    sym (ap (λ (a : Answer ℕ). figure_or a (length s.args.trace.now)) (found l.before.loop.invariant l.loop-test.true _ c.before.before.short_by.ensures c.if1.true))
 
 loop-less : tie.Need-loop-smaller invariant-loop decreases-loop
 loop-less c = search rules
@@ -109,23 +109,23 @@ loop-less c = search rules
 loop-again : tie.Need-loop-preserved invariant-loop decreases-loop
 loop-again c =
     let l = c.before.before.before.before in
-    next l.before.loop.invariant l.loop-test.true _ c.before.before.short-by.ensures c.if1.false
+    next l.before.loop.invariant l.loop-test.true _ c.before.before.short_by.ensures c.if1.false
 
 returns-2 : tie.Need-returns-2 invariant-loop decreases-loop
 returns-2 c = end c.before.loop.invariant c.loop-test.false
 
-pub stretch-end-spec : {M : Type 1} → statement M
-stretch-end-spec =
+pub stretch_end_spec : {M : Type 1} → statement M
+stretch_end_spec =
     tie.close
     (tie.spec
     invariant-loop
     decreases-loop
     loop-holds
-    mul-short-by
-    shared-slice-read-short-by
-    cast-short-by
-    add-short-by
-    short-by-requires
+    mul-short_by
+    shared_slice_read-short_by
+    cast-short_by
+    add-short_by
+    short_by-requires
     add-last
     returns
     loop-less

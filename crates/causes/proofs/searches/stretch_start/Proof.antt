@@ -112,33 +112,33 @@ decreases-loop trace bucket last first₀ demands₀ tokens₀ u₀ first demand
 loop-holds : tie.Need-loop-init invariant-loop decreases-loop
 loop-holds c = start _ _ _ _ c.requires.1.1.0
 
-sub-demands : tie.Need-overflow-sub-demands invariant-loop decreases-loop
+sub-demands : tie.Need-overflow_sub-demands invariant-loop decreases-loop
 sub-demands c = search rules
 
-mul-demands : tie.Need-overflow-mul-demands invariant-loop decreases-loop
+mul-demands : tie.Need-overflow_mul-demands invariant-loop decreases-loop
 mul-demands c =
     let s = c.before.before in
     omega (arith, c.before.loop.invariant.inside, s.requires.1.1.1, s.requires.0.few)
 
-shared-slice-read-demands : tie.Need-shared-slice-read-demands invariant-loop decreases-loop
-shared-slice-read-demands c =
+shared_slice_read-demands : tie.Need-shared_slice_read-demands invariant-loop decreases-loop
+shared_slice_read-demands c =
     let s = c.before.before.before in
     omega (arith, c.before.loop-test.true, c.before.before.loop.invariant.inside, s.requires.1.1.1)
 
-cast-demands : tie.Need-overflow-cast-demands invariant-loop decreases-loop
-cast-demands c = omega (arith, c.shared-slice-known.given (c.before.before.loop.u - 1))
+cast-demands : tie.Need-overflow_cast-demands invariant-loop decreases-loop
+cast-demands c = omega (arith, c.shared_slice_known.given (c.before.before.loop.u - 1))
 
-add-demands : tie.Need-overflow-add-demands invariant-loop decreases-loop
+add-demands : tie.Need-overflow_add-demands invariant-loop decreases-loop
 add-demands c =
     let s = c.before.before.before in
-    omega (arith, demands_fit c.before.before.loop.invariant c.before.loop-test.true s.requires.1.1.1 (record { each = λ i. omega (arith, c.shared-slice-known.given i) }) s.requires.0.few)
+    omega (arith, demands_fit c.before.before.loop.invariant c.before.loop-test.true s.requires.1.1.1 (record { each = λ i. omega (arith, c.shared_slice_known.given i) }) s.requires.0.few)
 
-add-tokens : tie.Need-overflow-add-tokens invariant-loop decreases-loop
+add-tokens : tie.Need-overflow_add-tokens invariant-loop decreases-loop
 add-tokens c =
     let s = c.before.before.before.before in
     omega (arith, tokens-fit c.before.before.before.loop.invariant c.before.before.loop-test.true s.requires.1.1.1 s.requires.1.0.rates s.requires.1.0.depths s.requires.0.few)
 
-sub-u : tie.Need-overflow-sub-u invariant-loop decreases-loop
+sub-u : tie.Need-overflow_sub-u invariant-loop decreases-loop
 sub-u c = search rules
 
 loop-less : tie.Need-loop-smaller invariant-loop decreases-loop
@@ -154,8 +154,8 @@ loop-again c =
 returns : tie.Need-returns invariant-loop decreases-loop
 returns c = end c.before.loop.invariant c.loop-test.false
 
-pub stretch-start-spec : {M : Type 1} → statement M
-stretch-start-spec =
+pub stretch_start_spec : {M : Type 1} → statement M
+stretch_start_spec =
     tie.close
     (tie.spec
     invariant-loop
@@ -163,7 +163,7 @@ stretch-start-spec =
     loop-holds
     sub-demands
     mul-demands
-    shared-slice-read-demands
+    shared_slice_read-demands
     cast-demands
     add-demands
     add-tokens

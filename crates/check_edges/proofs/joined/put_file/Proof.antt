@@ -10,8 +10,8 @@ invariant-loop room₀ from file place₀ i₀ i-end room place i = i ≤ i-end
 abbrev decreases-loop : tie.decreases-loop
 decreases-loop room₀ from file place₀ i₀ i-end room place i = i-end - i
 
-pub put-file-spec : {M : Type 1} → statement M
-put-file-spec =
+pub put_file_spec : {M : Type 1} → statement M
+put_file_spec =
     tie.close
     (tie.spec
     invariant-loop

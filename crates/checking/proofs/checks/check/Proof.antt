@@ -15,47 +15,47 @@ use borrow.Author.Rules.{rules}
 use Rattle.checking.proofs.checks.check.Statement.{statement}
 use Rattle.checking.proofs.checks.check.Tie as tie
 
-abbrev spread_at : tie.After-x → tie.After-spread-order
+abbrev spread_at : tie.After-x → tie.After-spread_order
 spread_at x = x.before.before.before
 
 -- the order that is read, with its demands
 abbrev order-of : tie.After-x → Ordered
-order-of x = record { order = x.x.given.0.0; demands = take x.x.given.0.0.periods (spread_at x).spread-order.new.1.0 }
+order-of x = record { order = x.x.given.0.0; demands = take x.x.given.0.0.periods (spread_at x).spread_order.new.1.0 }
 
 is_order : (x : tie.After-x) → ordered 512 (spread_at x).before.before.before.before.args.order.now ≡ figures (order-of x)
-is_order x = order-read _ _ _ _ (spread_at x).spread-order.ensures (long 512) _ (ap order_says x.x.given.1)
+is_order x = order-read _ _ _ _ (spread_at x).spread_order.ensures (long 512) _ (ap order_says x.x.given.1)
 
 -- the T numbers lie inside the array
-inside : (x : tie.After-x) → x.x.given.0.0.periods ≤ length (spread_at x).spread-order.new.1.0
-inside x = demands-inside _ _ _ _ (spread_at x).spread-order.ensures _ (ap order_says x.x.given.1)
+inside : (x : tie.After-x) → x.x.given.0.0.periods ≤ length (spread_at x).spread_order.new.1.0
+inside x = demands-inside _ _ _ _ (spread_at x).spread_order.ensures _ (ap order_says x.x.given.1)
 
-abbrev read_at : tie.After-answer → tie.After-read-records
+abbrev read_at : tie.After-answer → tie.After-read_records
 read_at a = a.before.before.before
 
-abbrev found_at : tie.After-read-records → tie.After-x
+abbrev found_at : tie.After-read_records → tie.After-x
 found_at r = r.before.before
 
 returns : tie.Need-returns
 returns c =
     let s = c.before.before.before.before in
-    check_unread _ _ _ (order_unread _ _ _ _ s.spread-order.ensures (long 512) _ (ap order_says c.before.why.given.1))
+    check_unread _ _ _ (order_unread _ _ _ _ s.spread_order.ensures (long 512) _ (ap order_says c.before.why.given.1))
 
 returns-2 : tie.Need-returns-2
 returns-2 c =
     let r = c.before.before.before.before in
-    plan_unread _ _ _ (is_order (found_at r)) _ r.read-records.ensures.0 _ (ap plan_says c.before.answer2.given.1)
+    plan_unread _ _ _ (is_order (found_at r)) _ r.read_records.ensures.0 _ (ap plan_says c.before.answer2.given.1)
 
 returns-3 : tie.Need-returns-3
 returns-3 c =
     let a = c.before.before.before.before in
     let r = read_at a in
-    check_unequal _ _ _ (is_order (found_at r)) _ r.read-records.ensures.0 _ (ap plan_says a.answer.given.1) _ r.read-records.ensures.1.0 c.if1.true
+    check_unequal _ _ _ (is_order (found_at r)) _ r.read_records.ensures.0 _ (ap plan_says a.answer.given.1) _ r.read_records.ensures.1.0 c.if1.true
 
-array-share-prefix-demands : tie.Need-array-share-prefix-demands
-array-share-prefix-demands c = let a = c.before.before.before.before.before.before in omega (arith, inside (found_at (read_at a)))
+array_share_prefix-demands : tie.Need-array_share_prefix-demands
+array_share_prefix-demands c = let a = c.before.before.before.before.before.before in omega (arith, inside (found_at (read_at a)))
 
-slice-aggregate-verdict : tie.Need-slice-aggregate-verdict
-slice-aggregate-verdict c =
+slice_aggregate-verdict : tie.Need-slice_aggregate-verdict
+slice_aggregate-verdict c =
     let a = c.before.before.before.before.before.before.before in
     sym (length-take-le _ _ (inside (found_at (read_at a))))
 
@@ -64,7 +64,7 @@ verdict-requires c κs =
     let e = c.before.before.before in
     let a = e.before.before.before.before in
     let r = read_at a in
-    weighable _ _ _ (is_order (found_at r)) _ r.read-records.ensures.0 _ (ap plan_says a.answer.given.1) _ r.read-records.ensures.1.0 e.if1.false
+    weighable _ _ _ (is_order (found_at r)) _ r.read_records.ensures.0 _ (ap plan_says a.answer.given.1) _ r.read_records.ensures.1.0 e.if1.false
 
 returns-4 : tie.Need-returns-4
 returns-4 c =
@@ -72,10 +72,10 @@ returns-4 c =
     let a = e.before.before.before.before in
     let r = read_at a in
     c.verdict.ensures
-    ∙ check_past _ _ _ (is_order (found_at r)) _ r.read-records.ensures.0 _ (ap plan_says a.answer.given.1) _ r.read-records.ensures.1.0 e.if1.false
+    ∙ check_past _ _ _ (is_order (found_at r)) _ r.read_records.ensures.0 _ (ap plan_says a.answer.given.1) _ r.read_records.ensures.1.0 e.if1.false
 
-pub check-spec : {M : Type 1} → statement M
-check-spec =
+pub check_spec : {M : Type 1} → statement M
+check_spec =
     tie.close
     (tie.spec
     (λ c. search rules)
@@ -89,7 +89,7 @@ check-spec =
     returns-2
     returns-3
     (λ c. search rules)
-    array-share-prefix-demands
-    slice-aggregate-verdict
+    array_share_prefix-demands
+    slice_aggregate-verdict
     verdict-requires
     returns-4)

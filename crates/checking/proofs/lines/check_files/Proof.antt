@@ -6,25 +6,25 @@ use borrow.Author.Rules.{rules}
 use Rattle.checking.proofs.lines.check_files.Statement.{statement}
 use Rattle.checking.proofs.lines.check_files.Tie as tie
 
-slice-aggregate-check-line : tie.Need-slice-aggregate-check-line
-slice-aggregate-check-line c =
+slice_aggregate-check_line : tie.Need-slice_aggregate-check_line
+slice_aggregate-check_line c =
     let e = c.before in
     let files = e.before.before.before.args.files.now in
-    sym (length-take-le _ files (end_inside files _ e.order-end.ensures))
+    sym (length-take-le _ files (end_inside files _ e.order_end.ensures))
 
 returns : tie.Need-returns
 returns c =
     let l = c.before.before in
     let e = l.before.before.before.before in
     let s = e.before.before.before.args in
-    files_filled s.files.now _ e.order-end.ensures s.text.now _ _ l.check-line.ensures
+    files_filled s.files.now _ e.order_end.ensures s.text.now _ _ l.check_line.ensures
 
-pub check-files-spec : {M : Type 1} → statement M
-check-files-spec =
+pub check_files_spec : {M : Type 1} → statement M
+check_files_spec =
     tie.close
     (tie.spec
     (λ c κs. search rules)
-    slice-aggregate-check-line
+    slice_aggregate-check_line
     (λ c. search rules)
     (λ c. search rules)
     (λ c. search rules)

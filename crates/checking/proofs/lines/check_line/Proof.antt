@@ -11,7 +11,7 @@ returns c =
     let y = c.before.before in
     let x = y.before.before.before in
     let k = x.before.before in
-    found_fills _ _ _ _ (sym k.check.ensures ∙ ap check_says x.excess.given.1) _ _ y.yes-line.ensures
+    found_fills _ _ _ _ (sym k.check.ensures ∙ ap check_says x.excess.given.1) _ _ y.yes_line.ensures
 
 returns-2 : tie.Need-returns-2
 returns-2 c =
@@ -26,8 +26,8 @@ returns-3 c =
     let k = w.before.before in
     refused_fills _ _ _ _ (sym k.check.ensures ∙ ap check_says w.why.given.1)
 
-pub check-line-spec : {M : Type 1} → statement M
-check-line-spec =
+pub check_line_spec : {M : Type 1} → statement M
+check_line_spec =
     tie.close
     (tie.spec
     (λ c κs. search rules)

@@ -25,7 +25,7 @@ abbrev start_of : tie.In-loop invariant-loop decreases-loop → tie.Start invari
 start_of c = c.before.before.before.before
 
 fits : (s : tie.Start invariant-loop decreases-loop) → s.args.stated.buckets ≤ length s.args.t4
-fits s = omega (arith, s.requires.count, s.well-formed.1.1.1.0.1.0.1)
+fits s = omega (arith, s.requires.count, s.well_formed.1.1.1.0.1.0.1)
 
 -- the run's part of the trace
 within : (c : tie.In-loop invariant-loop decreases-loop) → let s = (start_of c).args in
@@ -39,23 +39,23 @@ part c = let s = (start_of c).args in let l = c.before.loop in part-is s.trace.n
 loop-holds : tie.Need-loop-init invariant-loop decreases-loop
 loop-holds c = none_weighed _ _ _ _ c.before.before.requires
 
-array-copy-out-x : tie.Need-array-copy-out-x invariant-loop decreases-loop
-array-copy-out-x c = omega (arith, c.loop-test.true, (start_of c).requires.count)
+array_copy_out-x : tie.Need-array_copy_out-x invariant-loop decreases-loop
+array_copy_out-x c = omega (arith, c.loop-test.true, (start_of c).requires.count)
 
-cast-end : tie.Need-overflow-cast-end invariant-loop decreases-loop
+cast-end : tie.Need-overflow_cast-end invariant-loop decreases-loop
 cast-end c = let i = c.before.before in omega (arith, within i, (start_of i).requires.periods.few)
 
-add-end : tie.Need-overflow-add-end invariant-loop decreases-loop
+add-end : tie.Need-overflow_add-end invariant-loop decreases-loop
 add-end c = let i = c.before.before in omega (arith, within i, (start_of i).requires.periods.few)
 
-mul-run-holds : tie.Need-overflow-mul-run-holds invariant-loop decreases-loop
-mul-run-holds c = let i = c.before.before in omega (arith, within i, (start_of i).requires.periods.few)
+mul-run_holds : tie.Need-overflow_mul-run_holds invariant-loop decreases-loop
+mul-run_holds c = let i = c.before.before in omega (arith, within i, (start_of i).requires.periods.few)
 
-part-run-holds-end : tie.Need-slice-bounds-run-holds-end invariant-loop decreases-loop
-part-run-holds-end c = within c.before.before
+part-run_holds-end : tie.Need-slice_bounds-run_holds-end invariant-loop decreases-loop
+part-run_holds-end c = within c.before.before
 
-run-holds-requires : tie.Need-run-holds-requires invariant-loop decreases-loop
-run-holds-requires c κs =
+run_holds-requires : tie.Need-run_holds-requires invariant-loop decreases-loop
+run_holds-requires c κs =
     let i = c.before.before.before in
     let s = start_of i in
     run_ready _ _ _ _ i.before.loop.invariant s.pre (fits s) i.loop-test.true _ (part i)
@@ -68,20 +68,20 @@ returns c =
     let e = run_fails _ _ _ _ i.before.loop.invariant s.pre (fits s) i.loop-test.true _ (part i) (check_failed r.run_holds.ensures c.if1.true) in
     sym (ap (λ (ok : Bool). ok && eqb s.args.stated.cost (true_cost_of s.args.tariff (take s.args.stated.buckets s.args.t4))) e)
 
-cost-of-requires : tie.Need-cost-of-requires invariant-loop decreases-loop
-cost-of-requires c κs =
+cost_of-requires : tie.Need-cost_of-requires invariant-loop decreases-loop
+cost_of-requires c κs =
     let i = c.before.before.before.before.before.before in
     let s = start_of i in
     cost_ready _ _ _ _ i.before.loop.invariant s.pre (fits s) i.loop-test.true
 
-add-cost : tie.Need-overflow-add-cost invariant-loop decreases-loop
+add-cost : tie.Need-overflow_add-cost invariant-loop decreases-loop
 add-cost c =
     let i = c.before.before.before.before.before.before.before in
     let s = start_of i in
     let l = i.before.loop.invariant in
-    omega (arith, c.cost-of.ensures, l.small, cost-small _ _ _ _ l s.pre (fits s) i.loop-test.true, within i, s.pre.periods.few)
+    omega (arith, c.cost_of.ensures, l.small, cost-small _ _ _ _ l s.pre (fits s) i.loop-test.true, within i, s.pre.periods.few)
 
-add-i : tie.Need-overflow-add-i invariant-loop decreases-loop
+add-i : tie.Need-overflow_add-i invariant-loop decreases-loop
 add-i c =
     let i = c.before.before.before.before.before.before.before in
     omega (arith, i.loop-test.true, (start_of i).requires.count)
@@ -92,7 +92,7 @@ loop-again c =
     let r = e.before in
     let i = r.before.before.before.before in
     let s = start_of i in
-    run-weighed _ _ _ _ i.before.loop.invariant s.pre (fits s) i.loop-test.true _ (part i) (check_passed r.run_holds.ensures e.if1.false) _ c.cost-of.ensures
+    run-weighed _ _ _ _ i.before.loop.invariant s.pre (fits s) i.loop-test.true _ (part i) (check_passed r.run_holds.ensures e.if1.false) _ c.cost_of.ensures
 
 returns-2 : tie.Need-returns-2 invariant-loop decreases-loop
 returns-2 c =
@@ -101,8 +101,8 @@ returns-2 c =
     let a = all_weighed _ _ _ _ l.before.loop.invariant l.loop-test.false in
     sym (ap₂ (λ (ok : Bool) (n : _). ok && eqb s.args.stated.cost n) a.0 (sym a.1))
 
-pub plan-holds-spec : {M : Type 1} → statement M
-plan-holds-spec =
+pub plan_holds_spec : {M : Type 1} → statement M
+plan_holds_spec =
     tie.close
     (tie.spec
     invariant-loop
@@ -110,17 +110,17 @@ plan-holds-spec =
     (λ c. search rules)
     loop-holds
     (λ c. search rules)
-    array-copy-out-x
+    array_copy_out-x
     cast-end
     add-end
-    mul-run-holds
+    mul-run_holds
     (λ c. search rules)
     (λ c. search rules)
-    part-run-holds-end
-    run-holds-requires
+    part-run_holds-end
+    run_holds-requires
     returns
     (λ c. search rules)
-    cost-of-requires
+    cost_of-requires
     add-cost
     add-i
     (λ c. search rules)

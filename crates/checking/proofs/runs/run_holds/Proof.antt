@@ -27,6 +27,6 @@ returns-2 c =
     ap (λ (ok : Bool). leb b.rate.0 tariff.rate_cap.0 && leb b.depth.0 tariff.depth_cap.0 && ok)
     (ap (λ (x : TrialFigures). eqb x.over 0) found ∙ nothing-over b tariff.factor s.args.run.now)
 
-pub run-holds-spec : {M : Type 1} → statement M
-run-holds-spec =
+pub run_holds_spec : {M : Type 1} → statement M
+run_holds_spec =
     tie.close (tie.spec (λ c κs. search rules) (λ c. search rules) (λ c. search rules) returns returns-2)

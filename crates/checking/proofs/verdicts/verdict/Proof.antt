@@ -12,7 +12,7 @@ use borrow.Author.Rules.{rules}
 use Rattle.checking.proofs.verdicts.verdict.Statement.{statement}
 use Rattle.checking.proofs.verdicts.verdict.Tie as tie
 
-abbrev start_of : tie.After-plan-holds → tie.Start
+abbrev start_of : tie.After-plan_holds → tie.Start
 start_of c = c.before.before
 
 -- the plan that is weighed
@@ -21,12 +21,12 @@ plan-of s = stated_plan s.args.stated s.args.records
 
 -- it holds
 holds : (c : tie.Else1) → let s = start_of c.before in plan_ok s.args.tariff s.args.trace.now (plan-of s) ≡ true
-holds c = check_passed c.before.plan-holds.ensures c.if1.false
+holds c = check_passed c.before.plan_holds.ensures c.if1.false
 
 -- the least cost
-least : (c : tie.After-plan-series) → let s = (start_of c.before.before).args in
-    least_cost s.tariff s.trace.now ≡ on_figures (λ x. x.cost) (series_says c.plan-series.result.answer)
-least c = least-planned _ _ _ c.plan-series.ensures.0
+least : (c : tie.After-plan_series) → let s = (start_of c.before.before).args in
+    least_cost s.tariff s.trace.now ≡ on_figures (λ x. x.cost) (series_says c.plan_series.result.answer)
+least c = least-planned _ _ _ c.plan_series.ensures.0
 
 least-found : (c : tie.After-least) → let s = (start_of c.before.before.before.before).args in least_cost s.tariff s.trace.now ≡ figures c.least.given.0.0.cost
 least-found c = least c.before.before ∙ ap (λ a. on_figures (λ x. x.cost) (series_says a)) c.least.given.1
@@ -35,9 +35,9 @@ returns : tie.Need-returns
 returns c =
     let h = c.before in
     let s = start_of h in
-    ap figures (verdict-is _ _ (plan-of s) false (check_failed h.plan-holds.ensures c.if1.true) (least_cost s.args.tariff s.args.trace.now) refl)
+    ap figures (verdict-is _ _ (plan-of s) false (check_failed h.plan_holds.ensures c.if1.true) (least_cost s.args.tariff s.args.trace.now) refl)
 
-sub-t11 : tie.Need-overflow-sub-t11
+sub-t11 : tie.Need-overflow_sub-t11
 sub-t11 c =
     let l = c.before.before.before in
     let e = l.before.before.before in
@@ -55,8 +55,8 @@ returns-3 c =
     let p = c.before.before in
     ap figures (verdict-is _ _ (plan-of (start_of p.before.before)) true (holds p.before) _ (least p ∙ ap (λ a. on_figures (λ x. x.cost) (series_says a)) c.enum_told.given.1))
 
-pub verdict-spec : {M : Type 1} → statement M
-verdict-spec =
+pub verdict_spec : {M : Type 1} → statement M
+verdict_spec =
     tie.close
     (tie.spec
     (λ c κs. search rules)

@@ -26,16 +26,16 @@ made : (y : tie.After-x) → let a = y.before.before.before.before.args in walk_
 made y = sym y.before.before.walk_Through.ensures ∙ ap walk_says y.x.given.1
 
 ready : (y : tie.After-x) → Ready y.before.before.before.before.args.tariff y.x.given.0.0
-ready y = walk_ready _ _ _ (record { each = λ i. omega (arith, y.before.before.before.shared-slice-known.given i) }) (made y)
+ready y = walk_ready _ _ _ (record { each = λ i. omega (arith, y.before.before.before.shared_slice_known.given i) }) (made y)
 
-walk-through-requires : tie.Need-walk-through-requires
-walk-through-requires c κs = search rules
+walk_through-requires : tie.Need-walk_through-requires
+walk_through-requires c κs = search rules
 
-enum-known-x : tie.Need-enum-known-x
-enum-known-x c = search rules
+enum_known-x : tie.Need-enum_known-x
+enum_known-x c = search rules
 
-enum-known-why : tie.Need-enum-known-why
-enum-known-why c = search rules
+enum_known-why : tie.Need-enum_known-why
+enum_known-why c = search rules
 
 returns : tie.Need-returns
 returns c =
@@ -57,13 +57,13 @@ returns-2 c =
     let a = y.before.before.before.before.args in
     read_off a.tariff a.rate.0 a.list.now _ _ _ (made y) c.before.turned.ensures c.depth.ensures
 
-pub depth-from-end-spec : {M : Type 1} → statement M
-depth-from-end-spec =
+pub depth_from_end_spec : {M : Type 1} → statement M
+depth_from_end_spec =
     tie.close
     (tie.spec
-    walk-through-requires
-    enum-known-x
-    enum-known-why
+    walk_through-requires
+    enum_known-x
+    enum_known-why
     returns
     turned-requires
     depth-requires

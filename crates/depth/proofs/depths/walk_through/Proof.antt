@@ -12,27 +12,27 @@ use Rattle.depth.specs.WalkedLaws.{rate_range}
 use Rattle.depth.proofs.depths.walk_through.Statement.{statement}
 use Rattle.depth.proofs.depths.walk_through.Tie as tie
 
-periods-in-range-requires : tie.Need-periods-in-range-requires
-periods-in-range-requires c κs = search rules
+periods_in_range-requires : tie.Need-periods_in_range-requires
+periods_in_range-requires c κs = search rules
 
 returns : tie.Need-returns
 unfolding walk_for
-returns c = rw (check_failed c.before.periods-in-range.ensures c.if1.true)
+returns c = rw (check_failed c.before.periods_in_range.ensures c.if1.true)
 
-rate-in-range-requires : tie.Need-rate-in-range-requires
-rate-in-range-requires c κs = search rules
+rate_in_range-requires : tie.Need-rate_in_range-requires
+rate_in_range-requires c κs = search rules
 
 -- past the first test
 periods : (c : tie.Else1) → periods_ok (length c.before.before.before.args.list.now) ≡ true
-periods c = check_passed c.before.periods-in-range.ensures c.if1.false
+periods c = check_passed c.before.periods_in_range.ensures c.if1.false
 
 returns-2 : tie.Need-returns-2
 unfolding walk_for
-returns-2 c = rw (periods c.before.before, check_failed c.before.rate-in-range.ensures c.if2.true)
+returns-2 c = rw (periods c.before.before, check_failed c.before.rate_in_range.ensures c.if2.true)
 
 -- past the second
 figures : (c : tie.Else2) → let a = c.before.before.before.before.before.args in rate_ok a.tariff a.rate.0 ≡ true
-figures c = check_passed c.before.rate-in-range.ensures c.if2.false
+figures c = check_passed c.before.rate_in_range.ensures c.if2.false
 
 walked-requires : tie.Need-walked-requires
 walked-requires c κs =
@@ -43,13 +43,13 @@ returns-3 : tie.Need-returns-3
 unfolding walk_for
 returns-3 c = rw (periods c.before.before.before, figures c.before, c.walked.ensures)
 
-pub walk-through-spec : {M : Type 1} → statement M
-walk-through-spec =
+pub walk_through_spec : {M : Type 1} → statement M
+walk_through_spec =
     tie.close
     (tie.spec
-    periods-in-range-requires
+    periods_in_range-requires
     returns
-    rate-in-range-requires
+    rate_in_range-requires
     returns-2
     walked-requires
     returns-3)

@@ -45,18 +45,18 @@ new-requires c κs = search rules
 loop-holds : tie.Need-loop-init invariant-loop decreases-loop
 loop-holds c = start _ _ _ c.new.ensures
 
-mul-push : tie.Need-overflow-mul-push invariant-loop decreases-loop
+mul-push : tie.Need-overflow_mul-push invariant-loop decreases-loop
 mul-push c = search rules
 
-shared-slice-read-push : tie.Need-shared-slice-read-push invariant-loop decreases-loop
-shared-slice-read-push c = search rules
+shared_slice_read-push : tie.Need-shared_slice_read-push invariant-loop decreases-loop
+shared_slice_read-push c = search rules
 
 push-requires : tie.Need-push-requires invariant-loop decreases-loop
 push-requires c κs =
     let s = c.before.before.before.before.before in
-    (room c.before.before.loop.invariant s.requires.1 (record { each = λ i. omega (arith, c.before.before.before.before.shared-slice-known.given i) }) s.requires.0.few c.before.loop-test.true, s.requires.1)
+    (room c.before.before.loop.invariant s.requires.1 (record { each = λ i. omega (arith, c.before.before.before.before.shared_slice_known.given i) }) s.requires.0.few c.before.loop-test.true, s.requires.1)
 
-add-i : tie.Need-overflow-add-i invariant-loop decreases-loop
+add-i : tie.Need-overflow_add-i invariant-loop decreases-loop
 add-i c = search rules
 
 loop-less : tie.Need-loop-smaller invariant-loop decreases-loop
@@ -68,8 +68,8 @@ loop-again c = step c.before.before.before.loop.invariant _ c.before.before.loop
 returns : tie.Need-returns invariant-loop decreases-loop
 returns c = end c.before.loop.invariant c.loop-test.false
 
-pub walked-spec : {M : Type 1} → statement M
-walked-spec =
+pub walked_spec : {M : Type 1} → statement M
+walked_spec =
     tie.close
     (tie.spec
     invariant-loop
@@ -77,7 +77,7 @@ walked-spec =
     new-requires
     loop-holds
     mul-push
-    shared-slice-read-push
+    shared_slice_read-push
     push-requires
     add-i
     loop-less

@@ -62,32 +62,32 @@ decreases-loop bytes at width value₀ k₀ value k = k
 loop-holds : tie.Need-loop-init invariant-loop decreases-loop
 loop-holds c = begin _ _ _
 
-sub-k : tie.Need-overflow-sub-k invariant-loop decreases-loop
+sub-k : tie.Need-overflow_sub-k invariant-loop decreases-loop
 sub-k c = search rules
 
-mul-value : tie.Need-overflow-mul-value invariant-loop decreases-loop
+mul-value : tie.Need-overflow_mul-value invariant-loop decreases-loop
 mul-value c =
     let s = c.before.before in
     omega (arith, small _ _ _ _ _ c.before.loop.invariant c.loop-test.true s.requires.0)
 
-add-value : tie.Need-overflow-add-value invariant-loop decreases-loop
+add-value : tie.Need-overflow_add-value invariant-loop decreases-loop
 add-value c = let l = c.before.loop in let s = c.before.before in let h = l.invariant.few in omega (arith, s.requires.1)
 
-shared-slice-read-value : tie.Need-shared-slice-read-value invariant-loop decreases-loop
-shared-slice-read-value c =
+shared_slice_read-value : tie.Need-shared_slice_read-value invariant-loop decreases-loop
+shared_slice_read-value c =
     let l = c.before.before.loop in
     let s = c.before.before.before in
     let h = l.invariant.few in
     omega (arith, s.requires.1, c.before.loop-test.true)
 
-cast-value : tie.Need-overflow-cast-value invariant-loop decreases-loop
-cast-value c = omega (arith, c.shared-slice-known.given (c.before.before.before.args.at + (c.before.before.loop.k - 1)))
+cast-value : tie.Need-overflow_cast-value invariant-loop decreases-loop
+cast-value c = omega (arith, c.shared_slice_known.given (c.before.before.before.args.at + (c.before.before.loop.k - 1)))
 
-add-value-2 : tie.Need-overflow-add-value-2 invariant-loop decreases-loop
+add-value-2 : tie.Need-overflow_add-value-2 invariant-loop decreases-loop
 add-value-2 c =
     let l = c.before.before.loop in
     let s = c.before.before.before in
-    omega (arith, small _ _ _ _ _ l.invariant c.before.loop-test.true s.requires.0, c.shared-slice-known.given (s.args.at + (l.k - 1)))
+    omega (arith, small _ _ _ _ _ l.invariant c.before.loop-test.true s.requires.0, c.shared_slice_known.given (s.args.at + (l.k - 1)))
 
 loop-less : tie.Need-loop-smaller invariant-loop decreases-loop
 loop-less c = search rules
@@ -96,13 +96,13 @@ loop-again : tie.Need-loop-preserved invariant-loop decreases-loop
 loop-again c =
     let l = c.before.before.loop in
     let s = c.before.before.before in
-    next _ _ _ _ _ l.invariant c.before.loop-test.true s.requires.1 (omega (arith, c.shared-slice-known.given (s.args.at + (l.k - 1))))
+    next _ _ _ _ _ l.invariant c.before.loop-test.true s.requires.1 (omega (arith, c.shared_slice_known.given (s.args.at + (l.k - 1))))
 
 returns : tie.Need-returns invariant-loop decreases-loop
 returns c = end _ _ _ _ _ c.before.loop.invariant c.loop-test.false
 
-pub number-at-spec : {M : Type 1} → statement M
-number-at-spec =
+pub number_at_spec : {M : Type 1} → statement M
+number_at_spec =
     tie.close
     (tie.spec
     invariant-loop
@@ -111,7 +111,7 @@ number-at-spec =
     sub-k
     mul-value
     add-value
-    shared-slice-read-value
+    shared_slice_read-value
     cast-value
     add-value-2
     loop-less

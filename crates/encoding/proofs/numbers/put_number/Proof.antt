@@ -44,19 +44,19 @@ decreases-loop bytes₀ at width value rest₀ k₀ bytes rest k = width - k
 loop-holds : tie.Need-loop-init invariant-loop decreases-loop
 loop-holds c = begin _ _ _ _
 
-cast-bytes : tie.Need-overflow-cast-bytes invariant-loop decreases-loop
+cast-bytes : tie.Need-overflow_cast-bytes invariant-loop decreases-loop
 cast-bytes c = search rules
 
-add-bytes : tie.Need-overflow-add-bytes invariant-loop decreases-loop
+add-bytes : tie.Need-overflow_add-bytes invariant-loop decreases-loop
 add-bytes c = let s = c.before.before in omega (arith, s.requires, c.loop-test.true)
 
-slice-write-bytes : tie.Need-slice-write-bytes invariant-loop decreases-loop
-slice-write-bytes c =
+slice_write-bytes : tie.Need-slice_write-bytes invariant-loop decreases-loop
+slice_write-bytes c =
     let s = c.before.before in
     let e = c.before.loop.invariant.same in
     omega (arith, s.requires, c.loop-test.true)
 
-add-k : tie.Need-overflow-add-k invariant-loop decreases-loop
+add-k : tie.Need-overflow_add-k invariant-loop decreases-loop
 add-k c = search rules
 
 loop-less : tie.Need-loop-smaller invariant-loop decreases-loop
@@ -65,14 +65,14 @@ loop-less c = search rules
 loop-again : tie.Need-loop-preserved invariant-loop decreases-loop
 loop-again c = next _ _ _ _ _ _ _ c.before.loop.invariant c.loop-test.true
 
-same_length : tie.Need-same-length invariant-loop decreases-loop
+same_length : tie.Need-same_length invariant-loop decreases-loop
 same_length c = c.before.loop.invariant.same
 
 returns : tie.Need-returns invariant-loop decreases-loop
 returns c = end _ _ _ _ _ _ _ c.before.loop.invariant c.loop-test.false
 
-pub put-number-spec : {M : Type 1} → statement M
-put-number-spec =
+pub put_number_spec : {M : Type 1} → statement M
+put_number_spec =
     tie.close
     (tie.spec
     invariant-loop
@@ -80,7 +80,7 @@ put-number-spec =
     loop-holds
     cast-bytes
     add-bytes
-    slice-write-bytes
+    slice_write-bytes
     add-k
     loop-less
     loop-again

@@ -13,19 +13,19 @@ invariant-loop bytes₀ at words next₀ i₀ bytes next i = Putting 4 bytes₀ 
 abbrev decreases-loop : tie.decreases-loop
 decreases-loop bytes₀ at words next₀ i₀ bytes next i = length words - i
 
-add-next : tie.Need-overflow-add-next invariant-loop decreases-loop
+add-next : tie.Need-overflow_add-next invariant-loop decreases-loop
 add-next c =
     let d = c.before.before.before.before.before in
     let inv = d.before.loop.invariant in
-    omega (arith, put-inside inv d.loop-test.true, inv.stored.same, d.before.before.before.before.well-formed.0.0)
+    omega (arith, put-inside inv d.loop-test.true, inv.stored.same, d.before.before.before.before.well_formed.0.0)
 
 loop-again : tie.Need-loop-preserved invariant-loop decreases-loop
 loop-again c =
     let d = c.before.before.before.before.before in
-    put_next d.before.loop.invariant d.loop-test.true _ c.before.before.put-number.ensures
+    put_next d.before.loop.invariant d.loop-test.true _ c.before.before.put_number.ensures
 
-pub put-words-spec : {M : Type 1} → statement M
-put-words-spec =
+pub put_words_spec : {M : Type 1} → statement M
+put_words_spec =
     tie.close
     (tie.spec
     invariant-loop
@@ -33,7 +33,7 @@ put-words-spec =
     (λ c. put_begin 4 _ _ _ c.before.before.requires)
     (λ c. search rules)
     (λ c. search rules)
-    (λ c. omega (arith, c.shared-slice-known2.given c.before.before.before.loop.i))
+    (λ c. omega (arith, c.shared_slice_known2.given c.before.before.before.loop.i))
     (λ c κs. put-inside c.before.before.before.loop.invariant c.before.before.loop-test.true)
     add-next
     (λ c. search rules)

@@ -4,14 +4,14 @@ use borrow.Author.Rules.{rules}
 use Rattle.encoding.proofs.numbers.word_at.Statement.{statement}
 use Rattle.encoding.proofs.numbers.word_at.Tie as tie
 
-number-at-requires : tie.Need-number-at-requires
-number-at-requires c κs = search rules
+number_at-requires : tie.Need-number_at-requires
+number_at-requires c κs = search rules
 
-cast-result : tie.Need-overflow-cast-result
+cast-result : tie.Need-overflow_cast-result
 cast-result c = omega (arith, c.number_at.ensures.1)
 
 returns : tie.Need-returns
 returns c = search rules
 
-pub word-at-spec : {M : Type 1} → statement M
-word-at-spec = tie.close (tie.spec number-at-requires cast-result returns)
+pub word_at_spec : {M : Type 1} → statement M
+word_at_spec = tie.close (tie.spec number_at-requires cast-result returns)

@@ -5,14 +5,14 @@ use borrow.Author.Rules.{rules}
 use Rattle.exports.proofs.buckets.metqoraz_depth.Statement.{statement}
 use Rattle.exports.proofs.buckets.metqoraz_depth.Tie as tie
 
-depth-for-requires : tie.Need-depth-for-requires
-depth-for-requires c κs = search rules
+depth_for-requires : tie.Need-depth_for-requires
+depth_for-requires c κs = search rules
 
-coded-depth-requires : tie.Need-coded-depth-requires
-coded-depth-requires c κs = search rules
+coded_depth-requires : tie.Need-coded_depth-requires
+coded_depth-requires c κs = search rules
 
 returns : tie.Need-returns
-returns c = c.coded-depth.ensures ∙ ap coded c.before.depth-for.ensures
+returns c = c.coded_depth.ensures ∙ ap coded c.before.depth_for.ensures
 
-pub metqoraz-depth-spec : {M : Type 1} → statement M
-metqoraz-depth-spec = tie.close (tie.spec depth-for-requires coded-depth-requires returns)
+pub metqoraz_depth_spec : {M : Type 1} → statement M
+metqoraz_depth_spec = tie.close (tie.spec depth_for-requires coded_depth-requires returns)

@@ -9,16 +9,16 @@ use Rattle.exports.proofs.buckets.metqoraz_single.Tie as tie
 returns : tie.Need-returns
 returns c =
     let w = c.before.before in
-    let e = sym w.before.before.single-for.ensures ∙ ap single_says w.why.given.1 in
-    (code_refused _ (λ s. s.cost) _ _ e c.coded-refusal.ensures, (number_kept _ (λ s. s.bucket.rate.0) _ _ e, number_kept _ (λ s. s.bucket.depth.0) _ _ e))
+    let e = sym w.before.before.single_for.ensures ∙ ap single_says w.why.given.1 in
+    (code_refused _ (λ s. s.cost) _ _ e c.coded_refusal.ensures, (number_kept _ (λ s. s.bucket.rate.0) _ _ e, number_kept _ (λ s. s.bucket.depth.0) _ _ e))
 
 returns-2 : tie.Need-returns-2
 returns-2 c =
     let x = c.before in
-    let e = sym x.before.before.single-for.ensures ∙ ap single_says x.x.given.1 in
+    let e = sym x.before.before.single_for.ensures ∙ ap single_says x.x.given.1 in
     (code_found _ (λ s. s.cost) _ e, (number_found _ (λ s. s.bucket.rate.0) _ _ e, number_found _ (λ s. s.bucket.depth.0) _ _ e))
 
-pub metqoraz-single-spec : {M : Type 1} → statement M
-metqoraz-single-spec =
+pub metqoraz_single_spec : {M : Type 1} → statement M
+metqoraz_single_spec =
     tie.close
     (tie.spec (λ c κs. search rules) (λ c. search rules) (λ c. search rules) (λ c κs. search rules) returns returns-2)

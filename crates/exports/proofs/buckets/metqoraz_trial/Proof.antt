@@ -11,17 +11,17 @@ use Rattle.exports.proofs.buckets.metqoraz_trial.Tie as tie
 returns : tie.Need-returns
 returns c =
     let w = c.before.before in
-    let e = sym w.before.before.trial-for.ensures ∙ ap trial_says w.why.given.1 in
-    (code_refused _ (λ t. t.over) _ _ e c.coded-refusal.ensures, number_kept _ (λ t. t.spare) _ _ e)
+    let e = sym w.before.before.trial_for.ensures ∙ ap trial_says w.why.given.1 in
+    (code_refused _ (λ t. t.over) _ _ e c.coded_refusal.ensures, number_kept _ (λ t. t.spare) _ _ e)
 
 returns-2 : tie.Need-returns-2
 returns-2 c =
     let x = c.before.before.before in
-    let e = sym x.before.before.trial-for.ensures ∙ ap trial_says x.x.given.1 in
+    let e = sym x.before.before.trial_for.ensures ∙ ap trial_says x.x.given.1 in
     (code_found _ (λ t. t.over) _ e, to_z-of_z {w = w64} (record { sfits = c.before.struct_told.given.0.1 }) ∙ number_found _ (λ t. t.spare) _ _ e)
 
-pub metqoraz-trial-spec : {M : Type 1} → statement M
-metqoraz-trial-spec =
+pub metqoraz_trial_spec : {M : Type 1} → statement M
+metqoraz_trial_spec =
     tie.close
     (tie.spec
     (λ c κs. search rules)

@@ -16,7 +16,7 @@ returns-2 : tie.Need-returns-2
 returns-2 c =
     let w = c.before.before in
     let e = sym w.before.before.check.ensures ∙ ap check_says w.why.given.1 in
-    (code_refused _ verdict_code _ _ e c.coded-refusal.ensures, excess_is _ _ e _)
+    (code_refused _ verdict_code _ _ e c.coded_refusal.ensures, excess_is _ _ e _)
 
 returns-3 : tie.Need-returns-3
 returns-3 c =
@@ -24,8 +24,8 @@ returns-3 c =
     let e = sym x.before.before.check.ensures ∙ ap check_says x.x.given.1 in
     (code_found _ verdict_code _ e, excess_is _ _ e _)
 
-pub metqoraz-check-spec : {M : Type 1} → statement M
-metqoraz-check-spec =
+pub metqoraz_check_spec : {M : Type 1} → statement M
+metqoraz_check_spec =
     tie.close
     (tie.spec
     (λ c κs. search rules)

@@ -16,8 +16,8 @@ number figure x = figure (cause_numbers x.cause)
 returns : tie.Need-returns
 returns c =
     let w = c.before.before in
-    let e = sym w.before.before.explain-for.ensures ∙ ap explain_says w.why.given.1 in (
-      code_refused _ (λ x. x.depth) _ _ e c.coded-refusal.ensures,
+    let e = sym w.before.before.explain_for.ensures ∙ ap explain_says w.why.given.1 in (
+      code_refused _ (λ x. x.depth) _ _ e c.coded_refusal.ensures,
       (number_kept _ (number (λ n. n.cause)) _ _ e, (number_kept _ (number (λ n. n.first)) _ _ e, number_kept _ (number (λ n. n.last)) _ _ e)),
     )
 
@@ -25,7 +25,7 @@ returns-2 : tie.Need-returns-2
 returns-2 c =
     let f = c.before in
     let x = f.before.before in
-    let e = sym x.before.before.explain-for.ensures ∙ ap explain_says x.x.given.1 in
+    let e = sym x.before.before.explain_for.ensures ∙ ap explain_says x.x.given.1 in
     let n = f.Numbers-of.ensures in (
       code_found _ (λ x. x.depth) _ e,
       (
@@ -37,8 +37,8 @@ returns-2 c =
       ),
     )
 
-pub metqoraz-explain-spec : {M : Type 1} → statement M
-metqoraz-explain-spec =
+pub metqoraz_explain_spec : {M : Type 1} → statement M
+metqoraz_explain_spec =
     tie.close
     (tie.spec
     (λ c κs. search rules)

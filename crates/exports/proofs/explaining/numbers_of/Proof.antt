@@ -10,8 +10,8 @@ use Rattle.exports.proofs.explaining.numbers_of.Tie as tie
 numbers : {x y : Cause} → x ≡ y → cause_numbers (cause_says y) ≡ cause_numbers (cause_says x)
 numbers e = ap (λ (c : Cause). cause_numbers (cause_says c)) (sym e)
 
-pub numbers-of-spec : {M : Type 1} → statement M
-numbers-of-spec =
+pub numbers_of_spec : {M : Type 1} → statement M
+numbers_of_spec =
     tie.close
     (tie.spec
     (λ c. search rules)

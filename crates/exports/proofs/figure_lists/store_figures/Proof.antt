@@ -25,22 +25,22 @@ room : (s : tie.Start invariant-loop decreases-loop) → let a = s.args in Rooms
 room s = let a = s.args in rooms a.count a.runs.now a.rates.now a.depths.now s.requires.0
 
 fits : (s : tie.Start invariant-loop decreases-loop) → s.args.count ≤ length s.args.t1
-fits s = omega (arith, s.requires.1, s.well-formed.0.1.0.1)
+fits s = omega (arith, s.requires.1, s.well_formed.0.1.0.1)
 
 loop-holds : tie.Need-loop-init invariant-loop decreases-loop
 loop-holds c = record { runs-stored = none_stored _ 0 _; rates-stored = none_stored _ 0 _; depths-stored = none_stored _ 0 _ }
 
-array-copy-out-x : tie.Need-array-copy-out-x invariant-loop decreases-loop
-array-copy-out-x c = omega (arith, c.loop-test.true, c.before.before.requires.1)
+array_copy_out-x : tie.Need-array_copy_out-x invariant-loop decreases-loop
+array_copy_out-x c = omega (arith, c.loop-test.true, c.before.before.requires.1)
 
-slice-write-runs : tie.Need-slice-write-runs invariant-loop decreases-loop
-slice-write-runs c = let i = c.before in omega (arith, i.loop-test.true, (room i.before.before).first, i.before.loop.invariant.runs-stored.same)
+slice_write-runs : tie.Need-slice_write-runs invariant-loop decreases-loop
+slice_write-runs c = let i = c.before in omega (arith, i.loop-test.true, (room i.before.before).first, i.before.loop.invariant.runs-stored.same)
 
-slice-write-rates : tie.Need-slice-write-rates invariant-loop decreases-loop
-slice-write-rates c = let i = c.before in omega (arith, i.loop-test.true, (room i.before.before).second, i.before.loop.invariant.rates-stored.same)
+slice_write-rates : tie.Need-slice_write-rates invariant-loop decreases-loop
+slice_write-rates c = let i = c.before in omega (arith, i.loop-test.true, (room i.before.before).second, i.before.loop.invariant.rates-stored.same)
 
-slice-write-depths : tie.Need-slice-write-depths invariant-loop decreases-loop
-slice-write-depths c = let i = c.before in omega (arith, i.loop-test.true, (room i.before.before).third, i.before.loop.invariant.depths-stored.same)
+slice_write-depths : tie.Need-slice_write-depths invariant-loop decreases-loop
+slice_write-depths c = let i = c.before in omega (arith, i.loop-test.true, (room i.before.before).third, i.before.loop.invariant.depths-stored.same)
 
 loop-again : tie.Need-loop-preserved invariant-loop decreases-loop
 loop-again c =
@@ -53,14 +53,14 @@ loop-again c =
       depths-stored = figure_stored _ _ run_depth w.depths-stored l i.loop-test.true;
     }
 
-same_length : tie.Need-same-length invariant-loop decreases-loop
+same_length : tie.Need-same_length invariant-loop decreases-loop
 same_length c = c.before.loop.invariant.runs-stored.same
 
-same-length-2 : tie.Need-same-length-2 invariant-loop decreases-loop
-same-length-2 c = c.before.loop.invariant.rates-stored.same
+same_length-2 : tie.Need-same_length-2 invariant-loop decreases-loop
+same_length-2 c = c.before.loop.invariant.rates-stored.same
 
-same-length-3 : tie.Need-same-length-3 invariant-loop decreases-loop
-same-length-3 c = c.before.loop.invariant.depths-stored.same
+same_length-3 : tie.Need-same_length-3 invariant-loop decreases-loop
+same_length-3 c = c.before.loop.invariant.depths-stored.same
 
 returns : tie.Need-returns invariant-loop decreases-loop
 returns c =
@@ -74,25 +74,25 @@ returns c =
       ),
     )
 
-pub store-figures-spec : {M : Type 1} → statement M
-store-figures-spec =
+pub store_figures_spec : {M : Type 1} → statement M
+store_figures_spec =
     tie.close
     (tie.spec
     invariant-loop
     decreases-loop
     loop-holds
     (λ c. search rules)
-    array-copy-out-x
+    array_copy_out-x
     (λ c. search rules)
-    slice-write-runs
+    slice_write-runs
     (λ c. search rules)
-    slice-write-rates
+    slice_write-rates
     (λ c. search rules)
-    slice-write-depths
+    slice_write-depths
     (λ c. search rules)
     (λ c. search rules)
     loop-again
     same_length
-    same-length-2
-    same-length-3
+    same_length-2
+    same_length-3
     returns)

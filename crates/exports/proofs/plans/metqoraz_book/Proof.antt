@@ -12,8 +12,8 @@ returns c =
     let a = c.before.before in
     let p = a.before.before in
     let old = p.before.before.before.args.plan.now in
-    let k = file-refused _ p.plan-order.result p.plan-order.ensures _ (ap planned_says a.answer2.given.1) old in
-    (c.coded-refusal.ensures ∙ ap coded k.0, k.1)
+    let k = file-refused _ p.plan_order.result p.plan_order.ensures _ (ap planned_says a.answer2.given.1) old in
+    (c.coded_refusal.ensures ∙ ap coded k.0, k.1)
 
 returns-2 : tie.Need-returns-2
 returns-2 c =
@@ -21,11 +21,11 @@ returns-2 c =
     let a = f.before.before.before.before in
     let p = a.before.before in
     let old = p.before.before.before.args.plan.now in
-    let k = file-found _ p.plan-order.result p.plan-order.ensures _ (ap planned_says a.answer.given.1) old _ _ f.write_records.ensures in
-    (c.coded-fill.ensures ∙ ap coded k.0, k.1)
+    let k = file-found _ p.plan_order.result p.plan_order.ensures _ (ap planned_says a.answer.given.1) old _ _ f.write_records.ensures in
+    (c.coded_fill.ensures ∙ ap coded k.0, k.1)
 
-pub metqoraz-book-spec : {M : Type 1} → statement M
-metqoraz-book-spec =
+pub metqoraz_book_spec : {M : Type 1} → statement M
+metqoraz_book_spec =
     tie.close
     (tie.spec
     (λ c κs. search rules)

@@ -5,8 +5,8 @@ use borrow.Author.Rules.{rules}
 use Rattle.exports.proofs.texts.metqoraz_sheet.Statement.{statement}
 use Rattle.exports.proofs.texts.metqoraz_sheet.Tie as tie
 
-pub metqoraz-sheet-spec : {M : Type 1} → statement M
-metqoraz-sheet-spec =
+pub metqoraz_sheet_spec : {M : Type 1} → statement M
+metqoraz_sheet_spec =
     tie.close
     (tie.spec
     (λ c κs. search rules)
@@ -14,4 +14,4 @@ metqoraz-sheet-spec =
     (λ c. search rules)
     (λ c.
     let e = c.before.before.before.sheet.ensures in
-    (c.coded-fill.ensures ∙ ap coded e.0, e.1)))
+    (c.coded_fill.ensures ∙ ap coded e.0, e.1)))

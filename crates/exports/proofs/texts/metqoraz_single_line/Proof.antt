@@ -5,13 +5,13 @@ use borrow.Author.Rules.{rules}
 use Rattle.exports.proofs.texts.metqoraz_single_line.Statement.{statement}
 use Rattle.exports.proofs.texts.metqoraz_single_line.Tie as tie
 
-pub metqoraz-single-line-spec : {M : Type 1} → statement M
-metqoraz-single-line-spec =
+pub metqoraz_single_line_spec : {M : Type 1} → statement M
+metqoraz_single_line_spec =
     tie.close
     (tie.spec
     (λ c κs. search rules)
     (λ c κs. search rules)
     (λ c. search rules)
     (λ c.
-    let e = c.before.before.before.single-line.ensures in
-    (c.coded-fill.ensures ∙ ap coded e.0, e.1)))
+    let e = c.before.before.before.single_line.ensures in
+    (c.coded_fill.ensures ∙ ap coded e.0, e.1)))

@@ -28,5 +28,5 @@ returns-3 c =
     let s = d.before.before.before in
     ap figures c.greater.ensures ∙ depth_raised s.args.tariff s.args.old s.args.new _ s.requires.1.1.1 d.if1.false s.requires.1.1.0 e.if2.false
 
-pub depth-after-spec : {M : Type 1} → statement M
-depth-after-spec = tie.close (tie.spec depth-requires returns returns-2 greater-requires returns-3)
+pub depth_after_spec : {M : Type 1} → statement M
+depth_after_spec = tie.close (tie.spec depth-requires returns returns-2 greater-requires returns-3)

@@ -53,27 +53,27 @@ decreases-loop costs tariff known stops₀ charge₀ periods₀ stops charge per
 loop-holds : tie.Need-loop-init invariant-loop decreases-loop
 loop-holds c = begin _ _ _
 
-abbrev entered : tie.After-shared-slice-known2 invariant-loop decreases-loop → tie.In-loop invariant-loop decreases-loop
+abbrev entered : tie.After-shared_slice_known2 invariant-loop decreases-loop → tie.In-loop invariant-loop decreases-loop
 entered c = c.before.before.before
 
 abbrev start_of : tie.In-loop invariant-loop decreases-loop → tie.Start invariant-loop decreases-loop
 start_of i = i.before.before.before
 
-shared-slice-read-stop-at : tie.Need-shared-slice-read-stop-at invariant-loop decreases-loop
-shared-slice-read-stop-at c = let i = entered c in omega (arith, i.before.loop.inv.inside, i.loop-test.taken)
+shared_slice_read-stop_at : tie.Need-shared_slice_read-stop_at invariant-loop decreases-loop
+shared_slice_read-stop_at c = let i = entered c in omega (arith, i.before.loop.inv.inside, i.loop-test.taken)
 
-add-stop-at : tie.Need-overflow-add-stop-at invariant-loop decreases-loop
-add-stop-at c =
+add-stop_at : tie.Need-overflow_add-stop_at invariant-loop decreases-loop
+add-stop_at c =
     let i = entered c in
     let l = i.before in
     let s = start_of i in
     omega (arith, s.pre.0.each (l.loop.periods - 1) (omega (arith, l.loop.inv.inside, i.loop-test.taken)), s.pre.1.0.fees)
 
-stop-at-requires : tie.Need-stop-at-requires invariant-loop decreases-loop
-stop-at-requires c κs = let i = entered c in (omega (arith, c.before.before.billed-periods.ensures, i.loop-test.taken), (start_of i).pre.1.1)
+stop_at-requires : tie.Need-stop_at-requires invariant-loop decreases-loop
+stop_at-requires c κs = let i = entered c in (omega (arith, c.before.before.billed_periods.ensures, i.loop-test.taken), (start_of i).pre.1.1)
 
-array-write-stops : tie.Need-array-write-stops invariant-loop decreases-loop
-array-write-stops c =
+array_write-stops : tie.Need-array_write-stops invariant-loop decreases-loop
+array_write-stops c =
     let i = entered c.before.before in
     omega (arith, i.before.loop.inv.inside, (start_of i).pre.0.few, i.loop-test.taken)
 
@@ -85,13 +85,13 @@ loop-again c =
     let k = c.before.before in
     let i = entered k in
     let b = k.before.before in
-    step _ _ _ _ _ _ i.before.loop.inv (start_of i).pre.0.few i.loop-test.taken _ _ _ b.billed-periods.ensures c.before.stop-at.ensures c.greater-charge.ensures
+    step _ _ _ _ _ _ i.before.loop.inv (start_of i).pre.0.few i.loop-test.taken _ _ _ b.billed_periods.ensures c.before.stop_at.ensures c.greater_charge.ensures
 
 returns : tie.Need-returns invariant-loop decreases-loop
 returns c = let l = c.before in end _ _ _ _ _ _ l.loop.invariant l.before.before.requires.0.few c.loop-test.false
 
-pub stops-of-spec : {M : Type 1} → statement M
-stops-of-spec =
+pub stops_of_spec : {M : Type 1} → statement M
+stops_of_spec =
     tie.close
     (tie.spec
     invariant-loop
@@ -101,12 +101,12 @@ stops-of-spec =
     (λ c κs. search rules)
     (λ c. search rules)
     (λ c. search rules)
-    shared-slice-read-stop-at
-    add-stop-at
-    stop-at-requires
+    shared_slice_read-stop_at
+    add-stop_at
+    stop_at-requires
     (λ c κs. search rules)
     (λ c. search rules)
-    array-write-stops
+    array_write-stops
     loop-less
     loop-again
     returns)

@@ -17,5 +17,5 @@ returns-3 c =
     let d = e.before.before.before in
     sym (same-cost-ahead _ _ (le_antisymm d.if1.false e.if2.false))
 
-pub is-ahead-spec : {M : Type 1} → statement M
-is-ahead-spec = tie.close (tie.spec returns returns-2 returns-3)
+pub is_ahead_spec : {M : Type 1} → statement M
+is_ahead_spec = tie.close (tie.spec returns returns-2 returns-3)

@@ -24,7 +24,7 @@ loop-holds c =
 
 -- the demands are 16-bit numbers
 demands : (c : tie.At-loop invariant-loop decreases-loop) → Demands c.before.before.before.before.before.before.args.trace.now
-demands c = record { each = λ i. omega (arith, c.before.before.before.before.before.shared-slice-known.given i) }
+demands c = record { each = λ i. omega (arith, c.before.before.before.before.before.shared_slice_known.given i) }
 
 push-requires : tie.Need-push-requires invariant-loop decreases-loop
 push-requires c κs =
@@ -43,11 +43,11 @@ push-requires c κs =
 period : (c : tie.In-loop invariant-loop decreases-loop) → c.before.loop.i < 512
 period c = omega (arith, c.loop-test.true, c.before.before.before.before.before.before.before.requires.1.1.rests.few)
 
-mul-if1 : tie.Need-overflow-mul-if1 invariant-loop decreases-loop
+mul-if1 : tie.Need-overflow_mul-if1 invariant-loop decreases-loop
 mul-if1 c = omega (arith, period c.before.before)
 
-shared-slice-read-if1 : tie.Need-shared-slice-read-if1 invariant-loop decreases-loop
-shared-slice-read-if1 c =
+shared_slice_read-if1 : tie.Need-shared_slice_read-if1 invariant-loop decreases-loop
+shared_slice_read-if1 c =
     let i = c.before.before.before in
     let k = i.before.before.before.before.before.before.before.requires.1.1 in
     omega (arith, i.loop-test.true, k.rests.costs_all, k.stopped.room)
@@ -59,16 +59,16 @@ returns c =
     let k = i.before.before.before.before.before.before.before.requires.1.1 in
     λ e. passing_stop _ _ _ _ _ _ k _ _ _ _ _ i.before.loop.invariant i.loop-test.true d.push.ensures c.if1.true
 
-mul-cost-with : tie.Need-overflow-mul-cost-with invariant-loop decreases-loop
-mul-cost-with c = omega (arith, period c.before.before.before.before.before)
+mul-cost_with : tie.Need-overflow_mul-cost_with invariant-loop decreases-loop
+mul-cost_with c = omega (arith, period c.before.before.before.before.before)
 
-shared-slice-read-cost-with : tie.Need-shared-slice-read-cost-with invariant-loop decreases-loop
-shared-slice-read-cost-with c =
+shared_slice_read-cost_with : tie.Need-shared_slice_read-cost_with invariant-loop decreases-loop
+shared_slice_read-cost_with c =
     let i = c.before.before.before.before.before.before in
     omega (arith, i.loop-test.true, i.before.before.before.before.before.before.before.requires.1.1.rests.costs_all)
 
-cost-with-requires : tie.Need-cost-with-requires invariant-loop decreases-loop
-cost-with-requires c κs =
+cost_with-requires : tie.Need-cost_with-requires invariant-loop decreases-loop
+cost_with-requires c κs =
     let e = c.before in
     let d = e.before.before.before in
     let i = d.before.before in
@@ -87,7 +87,7 @@ cost-with-requires c κs =
 returns-2 : tie.Need-returns-2 invariant-loop decreases-loop
 returns-2 c = λ e. absurd (true≢false e)
 
-add-i : tie.Need-overflow-add-i invariant-loop decreases-loop
+add-i : tie.Need-overflow_add-i invariant-loop decreases-loop
 add-i c = omega (arith, period c.before.before.before.before.before.before.before.before.before)
 
 loop-less : tie.Need-loop-smaller invariant-loop decreases-loop
@@ -100,14 +100,14 @@ loop-again c =
     let d = e.before.before.before in
     let i = d.before.before in
     let k = i.before.before.before.before.before.before.before.requires.1.1 in
-    passing_next _ _ _ _ _ _ k _ _ _ _ _ i.before.loop.invariant i.loop-test.true d.push.ensures e.if1.false (omega (arith, c.if2.false, w.cost-with.ensures))
+    passing_next _ _ _ _ _ _ k _ _ _ _ _ i.before.loop.invariant i.loop-test.true d.push.ensures e.if1.false (omega (arith, c.if2.false, w.cost_with.ensures))
 
 returns-3 : tie.Need-returns-3 invariant-loop decreases-loop
 returns-3 c =
     λ e. passing_end _ _ _ _ _ _ c.before.before.before.before.before.before.before.requires.1.1 _ _ _ _ c.before.loop.invariant c.loop-test.false
 
-pub may-better-spec : {M : Type 1} → statement M
-may-better-spec =
+pub may_better_spec : {M : Type 1} → statement M
+may_better_spec =
     tie.close
     (tie.spec
     invariant-loop
@@ -118,11 +118,11 @@ may-better-spec =
     (λ c. search rules)
     push-requires
     mul-if1
-    shared-slice-read-if1
+    shared_slice_read-if1
     returns
-    mul-cost-with
-    shared-slice-read-cost-with
-    cost-with-requires
+    mul-cost_with
+    shared_slice_read-cost_with
+    cost_with-requires
     returns-2
     add-i
     loop-less

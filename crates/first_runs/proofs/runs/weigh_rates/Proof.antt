@@ -14,30 +14,30 @@ invariant-loop trace tariff low end costs counts stops best₀ next₀ best next
 abbrev decreases-loop : tie.decreases-loop
 decreases-loop trace tariff low end costs counts stops best₀ next₀ best next = end - next
 
-sub-t13 : tie.Need-overflow-sub-t13 invariant-loop decreases-loop
+sub-t13 : tie.Need-overflow_sub-t13 invariant-loop decreases-loop
 sub-t13 c = search rules
 
-may-better-requires : tie.Need-may-better-requires invariant-loop decreases-loop
-may-better-requires c κs = let p = c.before.before.before.before.requires in (omega (arith, p.0), (omega (arith, p.0, p.1.0), p.1.1))
+may_better-requires : tie.Need-may_better-requires invariant-loop decreases-loop
+may_better-requires c κs = let p = c.before.before.before.before.requires in (omega (arith, p.0), (omega (arith, p.0, p.1.0), p.1.1))
 
 returns : tie.Need-returns invariant-loop decreases-loop
 returns c =
     let m = c.before in
     let p = m.before.before.before.before.before.requires in
-    weighed-over _ _ _ _ _ _ _ (omega (arith, p.0)) p.1.1 _ (check_failed refl c.if1.true) m.may-better.ensures
+    weighed-over _ _ _ _ _ _ _ (omega (arith, p.0)) p.1.1 _ (check_failed refl c.if1.true) m.may_better.ensures
 
 loop-holds : tie.Need-loop-init invariant-loop decreases-loop
 loop-holds c =
     let p = c.before.before.before.before.before.before.requires in
     record { inside = omega (arith, p.0); weighed = weighed_none _ _ _ _ _ p.1.1 }
 
-weigh-rate-requires : tie.Need-weigh-rate-requires invariant-loop decreases-loop
-weigh-rate-requires c κs =
+weigh_rate-requires : tie.Need-weigh_rate-requires invariant-loop decreases-loop
+weigh_rate-requires c κs =
     let l = c.before in
     let p = l.before.before.before.before.before.before.before.requires in
     (omega (arith, c.loop-test.true, p.1.0), searching_on _ _ _ _ p.1.1 l.loop.invariant.weighed)
 
-add-next : tie.Need-overflow-add-next invariant-loop decreases-loop
+add-next : tie.Need-overflow_add-next invariant-loop decreases-loop
 add-next c = search rules
 
 loop-less : tie.Need-loop-smaller invariant-loop decreases-loop
@@ -46,22 +46,22 @@ loop-less c = search rules
 loop-again : tie.Need-loop-preserved invariant-loop decreases-loop
 loop-again c =
     let k = c.before.before.loop.invariant in
-    record { inside = omega (arith, c.before.loop-test.true); weighed = weighed_then _ _ _ _ k.weighed c.weigh-rate.ensures }
+    record { inside = omega (arith, c.before.loop-test.true); weighed = weighed_then _ _ _ _ k.weighed c.weigh_rate.ensures }
 
 returns-2 : tie.Need-returns-2 invariant-loop decreases-loop
 returns-2 c = turns_end _ _ _ _ _ _ _ _ _ _ refl c.before.loop.invariant c.loop-test.false
 
-pub weigh-rates-spec : {M : Type 1} → statement M
-weigh-rates-spec =
+pub weigh_rates_spec : {M : Type 1} → statement M
+weigh_rates_spec =
     tie.close
     (tie.spec
     invariant-loop
     decreases-loop
     sub-t13
-    may-better-requires
+    may_better-requires
     returns
     loop-holds
-    weigh-rate-requires
+    weigh_rate-requires
     add-next
     loop-less
     loop-again

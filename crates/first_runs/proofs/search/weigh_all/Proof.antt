@@ -15,8 +15,8 @@ invariant-loop trace tariff costs counts stops end best₀ low₀ best low = Tur
 abbrev decreases-loop : tie.decreases-loop
 decreases-loop trace tariff costs counts stops end best₀ low₀ best low = end - low
 
-rates-to-weigh-requires : tie.Need-rates-to-weigh-requires invariant-loop decreases-loop
-rates-to-weigh-requires c κs = c.before.before.before.before.requires.rests.tariffs
+rates_to_weigh-requires : tie.Need-rates_to_weigh-requires invariant-loop decreases-loop
+rates_to_weigh-requires c κs = c.before.before.before.before.requires.rests.tariffs
 
 loop-holds : tie.Need-loop-init invariant-loop decreases-loop
 loop-holds c = record { inside = omega arith; weighed = weighed_none _ _ _ _ _ c.before.before.before.before.before.requires }
@@ -26,22 +26,22 @@ below : (c : tie.In-loop invariant-loop decreases-loop) → let r = c.before.bef
 below c =
     let r = c.before.before in
     let s = r.before.before.before.before.before in
-    inside_cap s.args.tariff s.args.trace.now _ _ r.rates-to-weigh.ensures c.loop-test.true
+    inside_cap s.args.tariff s.args.trace.now _ _ r.rates_to_weigh.ensures c.loop-test.true
 
-add-lesser : tie.Need-overflow-add-lesser invariant-loop decreases-loop
+add-lesser : tie.Need-overflow_add-lesser invariant-loop decreases-loop
 add-lesser c = let s = c.before.before.before.before.before.before.before in omega (arith, below c, s.requires.rests.tariffs.rate_caps)
 
 lesser-requires : tie.Need-lesser-requires invariant-loop decreases-loop
 lesser-requires c κs = search rules
 
-weigh-rates-requires : tie.Need-weigh-rates-requires invariant-loop decreases-loop
-weigh-rates-requires c κs =
+weigh_rates-requires : tie.Need-weigh_rates-requires invariant-loop decreases-loop
+weigh_rates-requires c κs =
     let l = c.before.before in
     let r = l.before in
     let s = r.before.before.before.before.before in (
       omega (arith, c.lesser.ensures, c.before.loop-test.true),
       (
-        omega (arith, c.lesser.ensures, r.rates-to-weigh.ensures, min-le_left s.args.tariff.rate_cap.0 (greatest s.args.trace.now)),
+        omega (arith, c.lesser.ensures, r.rates_to_weigh.ensures, min-le_left s.args.tariff.rate_cap.0 (greatest s.args.trace.now)),
         searching_on _ _ _ _ s.requires l.loop.invariant.weighed,
       ),
     )
@@ -52,22 +52,22 @@ loop-less c = omega (arith, c.before.lesser.ensures, c.before.before.loop-test.t
 loop-again : tie.Need-loop-preserved invariant-loop decreases-loop
 loop-again c =
     let l = c.before.before.before in
-    record { inside = omega (arith, c.before.lesser.ensures); weighed = weighed_then _ _ _ _ l.loop.invariant.weighed c.weigh-rates.ensures }
+    record { inside = omega (arith, c.before.lesser.ensures); weighed = weighed_then _ _ _ _ l.loop.invariant.weighed c.weigh_rates.ensures }
 
 returns : tie.Need-returns invariant-loop decreases-loop
-returns c = turns_end _ _ _ _ _ _ _ _ _ _ c.before.before.rates-to-weigh.ensures c.before.loop.invariant c.loop-test.false
+returns c = turns_end _ _ _ _ _ _ _ _ _ _ c.before.before.rates_to_weigh.ensures c.before.loop.invariant c.loop-test.false
 
-pub weigh-all-spec : {M : Type 1} → statement M
-weigh-all-spec =
+pub weigh_all_spec : {M : Type 1} → statement M
+weigh_all_spec =
     tie.close
     (tie.spec
     invariant-loop
     decreases-loop
-    rates-to-weigh-requires
+    rates_to_weigh-requires
     loop-holds
     add-lesser
     lesser-requires
-    weigh-rates-requires
+    weigh_rates-requires
     loop-less
     loop-again
     returns)

@@ -384,15 +384,15 @@ meets {𝓤 = 𝓤} 𝓛 at_mem run 𝓣 known-plan-series known-buckets-of know
     (WpFn 𝓤 𝓛.H 𝓣.C 𝓣.Λ code.function) (WpFn-mono 𝓤 𝓛.H 𝓛.laws 𝓣 code.function)
     (walks 𝓛 at_mem run 𝓣 known-plan-series known-buckets-of known-store-records)
 
-pub series-spec : {M : Type 1} → stated.statement M
+pub series_spec : {M : Type 1} → stated.statement M
 unfolding code.routine tables_of
-series-spec 𝓤 𝓛 𝓜 𝓡 =
+series_spec 𝓤 𝓛 𝓜 𝓡 =
     entered 𝓤 𝓛.H (triple_of 𝓛 self.signature (self.spec 𝓛 𝓜.mem 𝓡.run))
     (tables 𝓤 𝓛.H 𝓜 𝓡 code.env).C (tables 𝓤 𝓛.H 𝓜 𝓡 code.env).Λ #key code.function (code.unfolded 𝓤 𝓛.H 𝓜 𝓡)
     (meets 𝓛 𝓜.mem 𝓡.run (tables_of 𝓤 𝓛.H 𝓜 (tables 𝓤 𝓛.H 𝓜 𝓡 code.env))
     (cited 𝓤 𝓛.H (PlanSeries 𝓛 𝓜.mem 𝓡.run)
-    𝓜 𝓡 code.env #plan-series plan-series-def.routine code.calls-series::planner::plan-series (plan-series-thm.met 𝓤 𝓛 𝓜 𝓡))
+    𝓜 𝓡 code.env #plan-series plan-series-def.routine code.calls-series::planner::plan_series (plan-series-thm.met 𝓤 𝓛 𝓜 𝓡))
     (cited 𝓤 𝓛.H (BucketsOf 𝓛 𝓜.mem 𝓡.run)
-    𝓜 𝓡 code.env #buckets-of buckets-of-def.routine code.calls-lent-plans::cuttings::buckets-of (buckets-of-thm.met 𝓤 𝓛 𝓜 𝓡))
+    𝓜 𝓡 code.env #buckets-of buckets-of-def.routine code.calls-lent_plans::cuttings::buckets_of (buckets-of-thm.met 𝓤 𝓛 𝓜 𝓡))
     (cited 𝓤 𝓛.H (StoreRecords 𝓛 𝓜.mem 𝓡.run)
-    𝓜 𝓡 code.env #store-records store-records-def.routine code.calls-record-list::copies::store-records (store-records-thm.met 𝓤 𝓛 𝓜 𝓡)))
+    𝓜 𝓡 code.env #store-records store-records-def.routine code.calls-record_list::copies::store_records (store-records-thm.met 𝓤 𝓛 𝓜 𝓡)))

@@ -362,15 +362,15 @@ meets {𝓤 = 𝓤} 𝓛 at_mem run 𝓣 known-load-count known-load-records kno
     (WpFn 𝓤 𝓛.H 𝓣.C 𝓣.Λ code.function) (WpFn-mono 𝓤 𝓛.H 𝓛.laws 𝓣 code.function)
     (walks 𝓛 at_mem run 𝓣 known-load-count known-load-records known-write-records)
 
-pub write-plan-spec : {M : Type 1} → stated.statement M
+pub write_plan_spec : {M : Type 1} → stated.statement M
 unfolding code.routine tables_of
-write-plan-spec 𝓤 𝓛 𝓜 𝓡 =
+write_plan_spec 𝓤 𝓛 𝓜 𝓡 =
     entered 𝓤 𝓛.H (triple_of 𝓛 self.signature (self.spec 𝓛 𝓜.mem 𝓡.run))
     (tables 𝓤 𝓛.H 𝓜 𝓡 code.env).C (tables 𝓤 𝓛.H 𝓜 𝓡 code.env).Λ #key code.function (code.unfolded 𝓤 𝓛.H 𝓜 𝓡)
     (meets 𝓛 𝓜.mem 𝓡.run (tables_of 𝓤 𝓛.H 𝓜 (tables 𝓤 𝓛.H 𝓜 𝓡 code.env))
     (cited 𝓤 𝓛.H (LoadCount 𝓛 𝓜.mem 𝓡.run)
-    𝓜 𝓡 code.env #load-count load-count-def.routine code.calls-lent-plans::files::load-count (load-count-thm.met 𝓤 𝓛 𝓜 𝓡))
+    𝓜 𝓡 code.env #load-count load-count-def.routine code.calls-lent_plans::files::load_count (load-count-thm.met 𝓤 𝓛 𝓜 𝓡))
     (cited 𝓤 𝓛.H (LoadRecords 𝓛 𝓜.mem 𝓡.run)
-    𝓜 𝓡 code.env #load-records load-records-def.routine code.calls-record-list::copies::load-records (load-records-thm.met 𝓤 𝓛 𝓜 𝓡))
+    𝓜 𝓡 code.env #load-records load-records-def.routine code.calls-record_list::copies::load_records (load-records-thm.met 𝓤 𝓛 𝓜 𝓡))
     (cited 𝓤 𝓛.H (WriteRecords 𝓛 𝓜.mem 𝓡.run)
-    𝓜 𝓡 code.env #write-records write-records-def.routine code.calls-plan-file::writing::write-records (write-records-thm.met 𝓤 𝓛 𝓜 𝓡)))
+    𝓜 𝓡 code.env #write-records write-records-def.routine code.calls-plan_file::writing::write_records (write-records-thm.met 𝓤 𝓛 𝓜 𝓡)))

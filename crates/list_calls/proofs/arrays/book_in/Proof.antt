@@ -596,9 +596,9 @@ meets {𝓤 = 𝓤} 𝓛 at_mem run 𝓣 known-book =
     walk_Meets 𝓛 self.ended stayed (goes 𝓛 at_mem run) (self.clauses 𝓛 at_mem run)
     (WpFn 𝓤 𝓛.H 𝓣.C 𝓣.Λ code.function) (WpFn-mono 𝓤 𝓛.H 𝓛.laws 𝓣 code.function) (walks 𝓛 at_mem run 𝓣 known-book)
 
-pub book-in-spec : {M : Type 1} → stated.statement M
+pub book_in_spec : {M : Type 1} → stated.statement M
 unfolding code.routine tables_of
-book-in-spec 𝓤 𝓛 𝓜 𝓡 =
+book_in_spec 𝓤 𝓛 𝓜 𝓡 =
     entered 𝓤 𝓛.H (triple_of 𝓛 self.signature (self.spec 𝓛 𝓜.mem 𝓡.run))
     (tables 𝓤 𝓛.H 𝓜 𝓡 code.env).C (tables 𝓤 𝓛.H 𝓜 𝓡 code.env).Λ #key code.function (code.unfolded 𝓤 𝓛.H 𝓜 𝓡)
     (meets 𝓛 𝓜.mem 𝓡.run (tables_of 𝓤 𝓛.H 𝓜 (tables 𝓤 𝓛.H 𝓜 𝓡 code.env))

@@ -304,11 +304,11 @@ meets {𝓤 = 𝓤} 𝓛 at_mem run 𝓣 known-write-plan =
     walk_Meets 𝓛 self.ended stayed (goes 𝓛 at_mem run) (self.clauses 𝓛 at_mem run)
     (WpFn 𝓤 𝓛.H 𝓣.C 𝓣.Λ code.function) (WpFn-mono 𝓤 𝓛.H 𝓛.laws 𝓣 code.function) (walks 𝓛 at_mem run 𝓣 known-write-plan)
 
-pub write-in-spec : {M : Type 1} → stated.statement M
+pub write_in_spec : {M : Type 1} → stated.statement M
 unfolding code.routine tables_of
-write-in-spec 𝓤 𝓛 𝓜 𝓡 =
+write_in_spec 𝓤 𝓛 𝓜 𝓡 =
     entered 𝓤 𝓛.H (triple_of 𝓛 self.signature (self.spec 𝓛 𝓜.mem 𝓡.run))
     (tables 𝓤 𝓛.H 𝓜 𝓡 code.env).C (tables 𝓤 𝓛.H 𝓜 𝓡 code.env).Λ #key code.function (code.unfolded 𝓤 𝓛.H 𝓜 𝓡)
     (meets 𝓛 𝓜.mem 𝓡.run (tables_of 𝓤 𝓛.H 𝓜 (tables 𝓤 𝓛.H 𝓜 𝓡 code.env))
     (cited 𝓤 𝓛.H (WritePlan 𝓛 𝓜.mem 𝓡.run)
-    𝓜 𝓡 code.env #write-plan write-plan-def.routine code.calls-lent-plans::write-plan (write-plan-thm.met 𝓤 𝓛 𝓜 𝓡)))
+    𝓜 𝓡 code.env #write-plan write-plan-def.routine code.calls-lent_plans::write_plan (write-plan-thm.met 𝓤 𝓛 𝓜 𝓡)))

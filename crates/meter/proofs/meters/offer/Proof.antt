@@ -11,8 +11,8 @@ use Rattle.terms.specs.Bools.{check_passed, check_failed}
 use Rattle.meter.proofs.meters.offer.Statement.{statement}
 use Rattle.meter.proofs.meters.offer.Tie as tie
 
-record-in-order-requires : tie.Need-record-in-order-requires
-record-in-order-requires c κs = search rules
+record_in_order-requires : tie.Need-record_in_order-requires
+record_in_order-requires c κs = search rules
 
 refuse-requires : tie.Need-refuse-requires
 refuse-requires c κs = search rules
@@ -21,12 +21,12 @@ returns : tie.Need-returns
 returns c =
     let d = c.before.before in
     let a = d.before.args in
-    let e = offer_broken a.meter a.demand (check_failed d.record-in-order.ensures c.before.if1.true) in
+    let e = offer_broken a.meter a.demand (check_failed d.record_in_order.ensures c.before.if1.true) in
     record { answers = rw (e, c.refuse.ensures); records = rw (e, c.refuse.ensures) }
 
 -- past the first test
 in_order : (c : tie.Else1) → meter_ok c.before.before.args.meter ≡ true
-in_order c = check_passed c.before.record-in-order.ensures c.if1.false
+in_order c = check_passed c.before.record_in_order.ensures c.if1.false
 
 step-requires : tie.Need-step-requires
 step-requires c κs =
@@ -58,11 +58,11 @@ returns-3 c =
     let s = d.before.step.ensures in
     record { answers = rw (e, s); records = rw (e, d.counted.ensures, s) }
 
-pub offer-spec : {M : Type 1} → statement M
-offer-spec =
+pub offer_spec : {M : Type 1} → statement M
+offer_spec =
     tie.close
     (tie.spec
-    record-in-order-requires
+    record_in_order-requires
     refuse-requires
     returns
     step-requires

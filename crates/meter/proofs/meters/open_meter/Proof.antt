@@ -8,22 +8,22 @@ use Rattle.terms.specs.Bools.{check_passed, check_failed}
 use Rattle.meter.proofs.meters.open_meter.Statement.{statement}
 use Rattle.meter.proofs.meters.open_meter.Tie as tie
 
-fresh-in-range-requires : tie.Need-fresh-in-range-requires
-fresh-in-range-requires c κs = search rules
+fresh_in_range-requires : tie.Need-fresh_in_range-requires
+fresh_in_range-requires c κs = search rules
 
 returns : tie.Need-returns
-returns c = rw (check_failed c.before.fresh-in-range.ensures c.if1.true)
+returns c = rw (check_failed c.before.fresh_in_range.ensures c.if1.true)
 
 -- past the test
 fresh : (c : tie.Else1) → let a = c.before.before.args in fresh_ok a.bucket a.factor ≡ true
-fresh c = check_passed c.before.fresh-in-range.ensures c.if1.false
+fresh c = check_passed c.before.fresh_in_range.ensures c.if1.false
 
-starting-tokens-requires : tie.Need-starting-tokens-requires
-starting-tokens-requires c κs = fresh_range _ _ (fresh c)
+starting_tokens-requires : tie.Need-starting_tokens-requires
+starting_tokens-requires c κs = fresh_range _ _ (fresh c)
 
 returns-2 : tie.Need-returns-2
-returns-2 c = rw (fresh c.before, c.starting-tokens.ensures)
+returns-2 c = rw (fresh c.before, c.starting_tokens.ensures)
 
-pub open-meter-spec : {M : Type 1} → statement M
-open-meter-spec =
-    tie.close (tie.spec fresh-in-range-requires returns starting-tokens-requires returns-2)
+pub open_meter_spec : {M : Type 1} → statement M
+open_meter_spec =
+    tie.close (tie.spec fresh_in_range-requires returns starting_tokens-requires returns-2)

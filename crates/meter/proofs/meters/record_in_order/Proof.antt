@@ -10,27 +10,27 @@ use Rattle.terms.specs.Bools.{check_passed, check_failed}
 use Rattle.meter.proofs.meters.record_in_order.Statement.{statement}
 use Rattle.meter.proofs.meters.record_in_order.Tie as tie
 
-fresh-in-range-requires : tie.Need-fresh-in-range-requires
-fresh-in-range-requires c κs = search rules
+fresh_in_range-requires : tie.Need-fresh_in_range-requires
+fresh_in_range-requires c κs = search rules
 
 -- past the first test
 fresh : (c : tie.Else1) → let m = c.before.before.before.before.args.m in fresh_ok m.bucket m.factor ≡ true
-fresh c = check_passed c.before.fresh-in-range.ensures c.if1.false
+fresh c = check_passed c.before.fresh_in_range.ensures c.if1.false
 
 -- past the second
 totals : (c : tie.Else2) → totals_ok c.before.before.before.before.before.before.args.m ≡ true
-totals c = check_passed c.before.totals-in-range.ensures c.if2.false
+totals c = check_passed c.before.totals_in_range.ensures c.if2.false
 
 returns : tie.Need-returns
 unfolding meter_ok
-returns c = rw (check_failed c.before.fresh-in-range.ensures c.if1.true)
+returns c = rw (check_failed c.before.fresh_in_range.ensures c.if1.true)
 
-totals-in-range-requires : tie.Need-totals-in-range-requires
-totals-in-range-requires c κs = search rules
+totals_in_range-requires : tie.Need-totals_in_range-requires
+totals_in_range-requires c κs = search rules
 
 returns-2 : tie.Need-returns-2
 unfolding meter_ok
-returns-2 c = rw (fresh c.before.before, check_failed c.before.totals-in-range.ensures c.if2.true)
+returns-2 c = rw (fresh c.before.before, check_failed c.before.totals_in_range.ensures c.if2.true)
 
 balances-requires : tie.Need-balances-requires
 balances-requires c κs = (fresh_range _ _ (fresh c.before.before), totals_range _ (totals c))
@@ -39,13 +39,13 @@ returns-3 : tie.Need-returns-3
 unfolding meter_ok
 returns-3 c = rw (fresh c.before.before.before, totals c.before, c.balances.ensures)
 
-pub record-in-order-spec : {M : Type 1} → statement M
-record-in-order-spec =
+pub record_in_order_spec : {M : Type 1} → statement M
+record_in_order_spec =
     tie.close
     (tie.spec
-    fresh-in-range-requires
+    fresh_in_range-requires
     returns
-    totals-in-range-requires
+    totals_in_range-requires
     returns-2
     balances-requires
     returns-3)

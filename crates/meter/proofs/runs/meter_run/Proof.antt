@@ -6,36 +6,36 @@ use borrow.Author.Rules.{rules}
 use Rattle.meter.proofs.runs.meter_run.Statement.{statement}
 use Rattle.meter.proofs.runs.meter_run.Tie as tie
 
-open-meter-requires : tie.Need-open-meter-requires
-open-meter-requires c κs = search rules
+open_meter-requires : tie.Need-open_meter-requires
+open_meter-requires c κs = search rules
 
-enum-known-answer : tie.Need-enum-known-answer
-enum-known-answer c = search rules
+enum_known-answer : tie.Need-enum_known-answer
+enum_known-answer c = search rules
 
-enum_told : tie.Need-enum-told
+enum_told : tie.Need-enum_told
 enum_told c = search rules
 
 returns : tie.Need-returns
 returns c =
-    let p = c.before.before.open-meter.ensures in
+    let p = c.before.before.open_meter.ensures in
     let e = ap open_says c.enum_told.given.1 in
     e ∙ then_refused _ _ (sym p ∙ e)
 
-offer-each-requires : tie.Need-offer-each-requires
-offer-each-requires c κs = search rules
+offer_each-requires : tie.Need-offer_each-requires
+offer_each-requires c κs = search rules
 
 returns-2 : tie.Need-returns-2
 returns-2 c =
-    let p = c.before.before.before.before.open-meter.ensures in
-    c.offer-each.ensures ∙ then_figures _ _ (sym p ∙ ap open_says c.before.before.answer.given.1)
+    let p = c.before.before.before.before.open_meter.ensures in
+    c.offer_each.ensures ∙ then_figures _ _ (sym p ∙ ap open_says c.before.before.answer.given.1)
 
-pub meter-run-spec : {M : Type 1} → statement M
-meter-run-spec =
+pub meter_run_spec : {M : Type 1} → statement M
+meter_run_spec =
     tie.close
     (tie.spec
-    open-meter-requires
-    enum-known-answer
+    open_meter-requires
+    enum_known-answer
     enum_told
     returns
-    offer-each-requires
+    offer_each-requires
     returns-2)

@@ -49,17 +49,17 @@ decreases-loop demands meter₀ i₀ meter i = length demands - i
 loop-holds : tie.Need-loop-init invariant-loop decreases-loop
 loop-holds c = refl
 
-mul-offer : tie.Need-overflow-mul-offer invariant-loop decreases-loop
+mul-offer : tie.Need-overflow_mul-offer invariant-loop decreases-loop
 mul-offer c = search rules
 
-shared-slice-read-offer : tie.Need-shared-slice-read-offer invariant-loop decreases-loop
-shared-slice-read-offer c = search rules
+shared_slice_read-offer : tie.Need-shared_slice_read-offer invariant-loop decreases-loop
+shared_slice_read-offer c = search rules
 
 offer-requires : tie.Need-offer-requires invariant-loop decreases-loop
 offer-requires c κs = search rules
 
-enum-known-answer : tie.Need-enum-known-answer invariant-loop decreases-loop
-enum-known-answer c = search rules
+enum_known-answer : tie.Need-enum_known-answer invariant-loop decreases-loop
+enum_known-answer c = search rules
 
 returns : tie.Need-returns invariant-loop decreases-loop
 returns c =
@@ -67,10 +67,10 @@ returns c =
     let t = o.before.before in
     refuses _ _ _ _ t.before.loop.invariant t.loop-test.true _ o.offer.ensures _ (ap offer_says c.before.answer.given.1)
 
-enum_told : tie.Need-enum-told invariant-loop decreases-loop
+enum_told : tie.Need-enum_told invariant-loop decreases-loop
 enum_told c = search rules
 
-add-i : tie.Need-overflow-add-i invariant-loop decreases-loop
+add-i : tie.Need-overflow_add-i invariant-loop decreases-loop
 add-i c = search rules
 
 loop-less : tie.Need-loop-smaller invariant-loop decreases-loop
@@ -85,17 +85,17 @@ loop-again c =
 returns-2 : tie.Need-returns-2 invariant-loop decreases-loop
 returns-2 c = none_left _ _ _ _ c.before.loop.invariant c.loop-test.false
 
-pub offer-each-spec : {M : Type 1} → statement M
-offer-each-spec =
+pub offer_each_spec : {M : Type 1} → statement M
+offer_each_spec =
     tie.close
     (tie.spec
     invariant-loop
     decreases-loop
     loop-holds
     mul-offer
-    shared-slice-read-offer
+    shared_slice_read-offer
     offer-requires
-    enum-known-answer
+    enum_known-answer
     returns
     enum_told
     add-i

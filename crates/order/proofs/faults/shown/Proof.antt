@@ -16,8 +16,8 @@ decreases-loop word i₀ i-end i = i-end - i
 loop-holds : tie.Need-loop-init invariant-loop decreases-loop
 loop-holds c = omega (arith, c.shorter.ensures, min-le_left (length c.before.before.args.word.now) 40)
 
-pub shown-spec : {M : Type 1} → statement M
-shown-spec =
+pub shown_spec : {M : Type 1} → statement M
+shown_spec =
     tie.close
     (tie.spec
     invariant-loop

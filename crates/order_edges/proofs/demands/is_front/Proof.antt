@@ -10,8 +10,8 @@ invariant-loop trace list i₀ i-end i = i ≤ i-end
 abbrev decreases-loop : tie.decreases-loop
 decreases-loop trace list i₀ i-end i = i-end - i
 
-pub is-front-spec : {M : Type 1} → statement M
-is-front-spec =
+pub is_front_spec : {M : Type 1} → statement M
+is_front_spec =
     tie.close
     (tie.spec
     invariant-loop

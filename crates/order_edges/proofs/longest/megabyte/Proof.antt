@@ -6,11 +6,11 @@ use lib.ListN.{length-replicate}
 use Rattle.order_edges.proofs.longest.megabyte.Statement.{statement}
 use Rattle.order_edges.proofs.longest.megabyte.Tie as tie
 
-slice-aggregate-reading : tie.Need-slice-aggregate-reading
-slice-aggregate-reading c = sym (length-replicate {0} {A = ℕ} 1048576 0)
+slice_aggregate-reading : tie.Need-slice_aggregate-reading
+slice_aggregate-reading c = sym (length-replicate {0} {A = ℕ} 1048576 0)
 
-pub megabyte-spec : {M : Type 1} → statement M
-megabyte-spec = tie.close (tie.spec
-    slice-aggregate-reading
+pub megabyte_spec : {M : Type 1} → statement M
+megabyte_spec = tie.close (tie.spec
+    slice_aggregate-reading
     (λ c κs. search rules)
     (λ c. search rules))

@@ -12,8 +12,8 @@ invariant-loop bytes₀ i₀ bytes i = (i ≤ 1026) × (1026 ≡ length bytes)
 abbrev decreases-loop : tie.decreases-loop
 decreases-loop bytes₀ i₀ bytes i = 1026 - i
 
-pub part-bytes-spec : {M : Type 1} → statement M
-part-bytes-spec =
+pub part_bytes_spec : {M : Type 1} → statement M
+part_bytes_spec =
     tie.close
     (tie.spec
     invariant-loop

@@ -12,8 +12,8 @@ invariant-loop demands list₀ i₀ list i = Copying demands list₀ list i
 abbrev decreases-loop : tie.decreases-loop
 decreases-loop demands list₀ i₀ list i = length demands - i
 
-pub store-demands-spec : {M : Type 1} → statement M
-store-demands-spec =
+pub store_demands_spec : {M : Type 1} → statement M
+store_demands_spec =
     tie.close
     (tie.spec
     invariant-loop

@@ -54,43 +54,43 @@ decreases-loop part demands₀ periods at₀ i₀ demands at i = periods - i
 loop-holds : tie.Need-loop-init invariant-loop decreases-loop
 loop-holds c = begin _ _
 
-number-at-requires : tie.Need-number-at-requires invariant-loop decreases-loop
-number-at-requires c κs = (omega arith, inside _ _ _ _ _ c.before.loop.invariant c.loop-test.true)
+number_at-requires : tie.Need-number_at-requires invariant-loop decreases-loop
+number_at-requires c κs = (omega arith, inside _ _ _ _ _ c.before.loop.invariant c.loop-test.true)
 
-cast-demands : tie.Need-overflow-cast-demands invariant-loop decreases-loop
+cast-demands : tie.Need-overflow_cast-demands invariant-loop decreases-loop
 cast-demands c = omega (arith, c.number_at.ensures.1)
 
-slice-write-demands : tie.Need-slice-write-demands invariant-loop decreases-loop
-slice-write-demands c =
+slice_write-demands : tie.Need-slice_write-demands invariant-loop decreases-loop
+slice_write-demands c =
     let s = c.before.before.before.before.before in
     room _ _ _ _ _ c.before.before.loop.invariant c.before.loop-test.true s.requires
 
-add_at : tie.Need-overflow-add-at invariant-loop decreases-loop
+add_at : tie.Need-overflow_add-at invariant-loop decreases-loop
 add_at c =
     let s = c.before.before.before.before.before in
     let h = inside _ _ _ _ _ c.before.before.loop.invariant c.before.loop-test.true in
-    omega (arith, s.well-formed.0.0)
+    omega (arith, s.well_formed.0.0)
 
 loop-again : tie.Need-loop-preserved invariant-loop decreases-loop
 loop-again c = next _ _ _ _ _ c.before.before.loop.invariant c.before.loop-test.true _ c.number_at.ensures.0
 
-same_length : tie.Need-same-length invariant-loop decreases-loop
+same_length : tie.Need-same_length invariant-loop decreases-loop
 same_length c = c.before.loop.invariant.stored.same
 
 returns : tie.Need-returns invariant-loop decreases-loop
 returns c = end _ _ _ _ _ c.before.loop.invariant c.loop-test.false
 
-pub load-demands-spec : {M : Type 1} → statement M
-load-demands-spec =
+pub load_demands_spec : {M : Type 1} → statement M
+load_demands_spec =
     tie.close
     (tie.spec
     invariant-loop
     decreases-loop
     loop-holds
-    number-at-requires
+    number_at-requires
     cast-demands
     (λ c. search rules)
-    slice-write-demands
+    slice_write-demands
     add_at
     (λ c. search rules)
     (λ c. search rules)

@@ -15,27 +15,27 @@ use Rattle.order_file.proofs.traces.spread.Tie as tie
 
 -- past the first test
 part-ok : (c : tie.Else1) → part_ok (length c.before.before.before.before.args.part.now) ≡ true
-part-ok c = check_passed c.before.part-in-range.ensures c.if1.false
+part-ok c = check_passed c.before.part_in_range.ensures c.if1.false
 
-part-in-range-requires : tie.Need-part-in-range-requires
-part-in-range-requires c κs = search rules
+part_in_range-requires : tie.Need-part_in_range-requires
+part_in_range-requires c κs = search rules
 
 returns : tie.Need-returns
 returns c =
     let s = c.before.before.before.before.args in
-    fill_refused _ s.demands.now 3 (spread_odd _ _ (check_failed c.before.part-in-range.ensures c.if1.true))
+    fill_refused _ s.demands.now 3 (spread_odd _ _ (check_failed c.before.part_in_range.ensures c.if1.true))
 
 returns-2 : tie.Need-returns-2
 returns-2 c =
     let s = c.before.before.before.before.before.args in
     fill_refused _ s.demands.now 6 (spread_full _ _ (part-ok c.before) (lt-leb _ _ c.if2.true))
 
-load-demands-requires : tie.Need-load-demands-requires
-load-demands-requires c κs =
+load_demands-requires : tie.Need-load_demands-requires
+load_demands-requires c κs =
     let s = c.before.before.before.before.before.before.args in
     omega (arith, length-demands s.part.now, c.before.if2.false)
 
-same_length : tie.Need-same-length
+same_length : tie.Need-same_length
 same_length c = search rules
 
 returns-3 : tie.Need-returns-3
@@ -44,9 +44,9 @@ returns-3 c =
     let s = d.before.before.before.before.before.args in
     let n = length-demands s.part.now in
     fill_stored _ s.demands.now (demands_in s.part.now) _ _
-    (spread-figures _ _ (part-ok d.before) (le-leb _ _ d.if2.false)) (sym n) (omega (arith, n, d.if2.false)) c.before.before.load-demands.ensures
+    (spread-figures _ _ (part-ok d.before) (le-leb _ _ d.if2.false)) (sym n) (omega (arith, n, d.if2.false)) c.before.before.load_demands.ensures
 
-pub spread-spec : {M : Type 1} → statement M
-spread-spec =
+pub spread_spec : {M : Type 1} → statement M
+spread_spec =
     tie.close
-    (tie.spec part-in-range-requires returns returns-2 load-demands-requires same_length returns-3)
+    (tie.spec part_in_range-requires returns returns-2 load_demands-requires same_length returns-3)

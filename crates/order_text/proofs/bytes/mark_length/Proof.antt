@@ -14,14 +14,14 @@ lengthBy t = cond t 3 0
 returns : tie.Need-returns
 returns c = sym (short-unmarked c.before.args.text.now c.if1.true)
 
-shared-slice-read-if2 : tie.Need-shared-slice-read-if2
-shared-slice-read-if2 c = search rules
+shared_slice_read-if2 : tie.Need-shared_slice_read-if2
+shared_slice_read-if2 c = search rules
 
-shared-slice-read-if2-2 : tie.Need-shared-slice-read-if2-2
-shared-slice-read-if2-2 c = search rules
+shared_slice_read-if2-2 : tie.Need-shared_slice_read-if2-2
+shared_slice_read-if2-2 c = search rules
 
-shared-slice-read-if2-3 : tie.Need-shared-slice-read-if2-3
-shared-slice-read-if2-3 c = search rules
+shared_slice_read-if2-3 : tie.Need-shared_slice_read-if2-3
+shared_slice_read-if2-3 c = search rules
 
 returns-2 : tie.Need-returns-2
 returns-2 c = sym (ap lengthBy c.if2.true)
@@ -29,13 +29,13 @@ returns-2 c = sym (ap lengthBy c.if2.true)
 returns-3 : tie.Need-returns-3
 returns-3 c = sym (ap lengthBy c.if2.false)
 
-pub mark-length-spec : {M : Type 1} → statement M
-mark-length-spec =
+pub mark_length_spec : {M : Type 1} → statement M
+mark_length_spec =
     tie.close
     (tie.spec
     returns
-    shared-slice-read-if2
-    shared-slice-read-if2-2
-    shared-slice-read-if2-3
+    shared_slice_read-if2
+    shared_slice_read-if2-2
+    shared_slice_read-if2-3
     returns-2
     returns-3)

@@ -26,7 +26,7 @@ ends c r e =
     let d = b.before.before in
     let s = d.before.before.before.before in
     ap (on_read (λ t. passed t s.args.byte)) (comes-to c r e)
-    ∙ sym (after_end (begins s) s.args.byte d.before.before.if1.false (sym d.before.is_digit.ensures ∙ d.if2.false) (check_passed b.before.ends-figure.ensures b.if3.false))
+    ∙ sym (after_end (begins s) s.args.byte d.before.before.if1.false (sym d.before.is_digit.ensures ∙ d.if2.false) (check_passed b.before.ends_figure.ensures b.if3.false))
 
 pass-requires : tie.Need-pass-requires
 pass-requires c κs = c.before.before.requires.1.1
@@ -36,11 +36,11 @@ returns c =
     let s = c.before.before.before in
     (ap read (c.pass.ensures.says s.args.figures.now) ∙ sym (after-comment (begins s) s.args.byte c.before.if1.true), c.pass.ensures.fits s.requires.1.0)
 
-is-digit-requires : tie.Need-is-digit-requires
-is-digit-requires c κs = search rules
+is_digit-requires : tie.Need-is_digit-requires
+is_digit-requires c κs = search rules
 
-with-digit-requires : tie.Need-with-digit-requires
-with-digit-requires c κs =
+with_digit-requires : tie.Need-with_digit-requires
+with_digit-requires c κs =
     let s = c.before.before.before.before in
     (s.requires.1.0, (s.requires.1.1, sym c.before.is_digit.ensures ∙ c.if2.true))
 
@@ -48,29 +48,29 @@ returns-2 : tie.Need-returns-2
 returns-2 c =
     let d = c.before.before in
     let s = d.before.before.before in
-    let w = c.with-digit.ensures in
+    let w = c.with_digit.ensures in
     (w.says _ s.requires.0 ∙ sym (after-digit (begins s) s.args.byte d.before.if1.false (sym d.is_digit.ensures ∙ c.before.if2.true)), w.fits)
 
-ends-figure-requires : tie.Need-ends-figure-requires
-ends-figure-requires c κs = search rules
+ends_figure-requires : tie.Need-ends_figure-requires
+ends_figure-requires c κs = search rules
 
-fault-at-requires : tie.Need-fault-at-requires
-fault-at-requires c κs = search rules
+fault_at-requires : tie.Need-fault_at-requires
+fault_at-requires c κs = search rules
 
 returns-3 : tie.Need-returns-3
 returns-3 c =
     let d = c.before.before.before in
     let s = d.before.before.before.before in
-    let w = c.fault-at.ensures in
+    let w = c.fault_at.ensures in
     let e =
-    after_byte_lem (begins s) s.args.byte d.before.before.if1.false (sym d.before.is_digit.ensures ∙ d.if2.false) (check_failed c.before.before.ends-figure.ensures c.before.if3.true) in
+    after_byte_lem (begins s) s.args.byte d.before.before.if1.false (sym d.before.is_digit.ensures ∙ d.if2.false) (check_failed c.before.before.ends_figure.ensures c.before.if3.true) in
     (w.says _ s.requires.0 ∙ sym e, w.fits)
 
 close-requires : tie.Need-close-requires
 close-requires c κs = search rules
 
-enum-known-next : tie.Need-enum-known-next
-enum-known-next c = search rules
+enum_known-next : tie.Need-enum_known-next
+enum_known-next c = search rules
 
 pass-requires-2 : tie.Need-pass-requires-2
 pass-requires-2 c κs =
@@ -80,10 +80,10 @@ pass-requires-2 c κs =
     let p = subst (At s.args.at.place s.args.at.place) k (closed_at (begins s)) in
     record { lines = omega (arith, s.requires.1.1.lines, closes_line (closes (begins s) _ k)); places = omega (arith, s.requires.1.1.places, p) }
 
-enum-known-fault : tie.Need-enum-known-fault
-enum-known-fault c = search rules
+enum_known-fault : tie.Need-enum_known-fault
+enum_known-fault c = search rules
 
-same_length : tie.Need-same-length
+same_length : tie.Need-same_length
 same_length c = search rules
 
 returns-4 : tie.Need-returns-4
@@ -93,29 +93,29 @@ returns-4 c =
     let p = c.pass2.ensures in
     (ap read (p.says _) ∙ ends d _ e, p.fits (subst StepFits e d.close.ensures.1))
 
-same-length-2 : tie.Need-same-length-2
-same-length-2 c = search rules
+same_length-2 : tie.Need-same_length-2
+same_length-2 c = search rules
 
 returns-5 : tie.Need-returns-5
 returns-5 c = (ends c.before.before.before.before.before _ c.before.fault.given.1, tt)
 
-pub after-byte-spec : {M : Type 1} → statement M
-after-byte-spec =
+pub after_byte_spec : {M : Type 1} → statement M
+after_byte_spec =
     tie.close
     (tie.spec
     pass-requires
     returns
-    is-digit-requires
-    with-digit-requires
+    is_digit-requires
+    with_digit-requires
     returns-2
-    ends-figure-requires
-    fault-at-requires
+    ends_figure-requires
+    fault_at-requires
     returns-3
     close-requires
-    enum-known-next
+    enum_known-next
     pass-requires-2
-    enum-known-fault
+    enum_known-fault
     same_length
     returns-4
-    same-length-2
+    same_length-2
     returns-5)

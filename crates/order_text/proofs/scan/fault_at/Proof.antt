@@ -6,5 +6,5 @@ use Rattle.order_text.proofs.scan.fault_at.Tie as tie
 returns : tie.Need-returns
 returns c = fault_steps _ _ c.requires
 
-pub fault-at-spec : {M : Type 1} → statement M
-fault-at-spec = tie.close (tie.spec returns)
+pub fault_at_spec : {M : Type 1} → statement M
+fault_at_spec = tie.close (tie.spec returns)

@@ -36,13 +36,13 @@ same c =
 scan-requires : tie.Need-scan-requires
 scan-requires c κs = search rules
 
-enum-known-at : tie.Need-enum-known-at
-enum-known-at c = search rules
+enum_known-at : tie.Need-enum_known-at
+enum_known-at c = search rules
 
-enum-known-fault : tie.Need-enum-known-fault
-enum-known-fault c = search rules
+enum_known-fault : tie.Need-enum_known-fault
+enum_known-fault c = search rules
 
-same_length : tie.Need-same-length
+same_length : tie.Need-same_length
 same_length c = search rules
 
 returns : tie.Need-returns
@@ -54,23 +54,23 @@ close-requires c κs =
     let f = a.before.before.before in
     (f.figures.given ∙ f.before.before.before.before.before.requires, subst StepFits a.at.given.1 f.before.scan.ensures.1)
 
-enum-known-at-2 : tie.Need-enum-known-at-2
-enum-known-at-2 c = search rules
+enum_known-at-2 : tie.Need-enum_known-at-2
+enum_known-at-2 c = search rules
 
-enum-known-fault-2 : tie.Need-enum-known-fault-2
-enum-known-fault-2 c = search rules
+enum_known-fault-2 : tie.Need-enum_known-fault-2
+enum_known-fault-2 c = search rules
 
-same-length-2 : tie.Need-same-length-2
-same-length-2 c = search rules
+same_length-2 : tie.Need-same_length-2
+same_length-2 c = search rules
 
 returns-2 : tie.Need-returns-2
 returns-2 c = (sym (closes c.before.before.before.before.before _ c.before.fault2.given.1), tt)
 
-fault-at-requires : tie.Need-fault-at-requires
-fault-at-requires c κs = fits c.before.before.before
+fault_at-requires : tie.Need-fault_at-requires
+fault_at-requires c κs = fits c.before.before.before
 
-same-length-3 : tie.Need-same-length-3
-same-length-3 c = search rules
+same_length-3 : tie.Need-same_length-3
+same_length-3 c = search rules
 
 returns-3 : tie.Need-returns-3
 returns-3 c =
@@ -78,11 +78,11 @@ returns-3 c =
     let d = a.before.before.before.before in
     let xs = d.close.new.1.0 in
     let n = count-is _ xs (fits a) (same a) in
-    let w = c.fault-at.ensures in
+    let w = c.fault_at.ensures in
     (ap (on_read (λ s. s.figures)) (w.says xs (same a)) ∙ sym (closes d _ a.at2.given.1 ∙ enough-few (scan_of a.at2.given.0.0 xs) (omega (arith, n, c.before.if1.true))), w.fits)
 
-same-length-4 : tie.Need-same-length-4
-same-length-4 c = search rules
+same_length-4 : tie.Need-same_length-4
+same_length-4 c = search rules
 
 returns-4 : tie.Need-returns-4
 returns-4 c =
@@ -92,22 +92,22 @@ returns-4 c =
     let n = count-is _ xs (fits a) (same a) in
     (sym (closes d _ a.at2.given.1 ∙ enough_all (scan_of a.at2.given.0.0 xs) (omega (arith, n, c.if1.false))), fits a)
 
-pub read-figures-spec : {M : Type 1} → statement M
-read-figures-spec =
+pub read_figures_spec : {M : Type 1} → statement M
+read_figures_spec =
     tie.close
     (tie.spec
     scan-requires
-    enum-known-at
-    enum-known-fault
+    enum_known-at
+    enum_known-fault
     same_length
     returns
     close-requires
-    enum-known-at-2
-    enum-known-fault-2
-    same-length-2
+    enum_known-at-2
+    enum_known-fault-2
+    same_length-2
     returns-2
-    fault-at-requires
-    same-length-3
+    fault_at-requires
+    same_length-3
     returns-3
-    same-length-4
+    same_length-4
     returns-4)

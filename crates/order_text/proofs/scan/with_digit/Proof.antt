@@ -10,41 +10,41 @@ use Rattle.order_text.proofs.scan.with_digit.Statement.{statement}
 use Rattle.order_text.proofs.scan.with_digit.Tie as tie
 
 -- what the digit makes of the figure, under the limit of the figure that is begun or due
-comes-to : (p : tie.After-push-digit) → let a = p.before.before.before.before.args in
-    pushed (limit_of a.at.count) a.at.value a.byte ≡ push_says p.push-digit.result
+comes-to : (p : tie.After-push_digit) → let a = p.before.before.before.before.args in
+    pushed (limit_of a.at.count) a.at.value a.byte ≡ push_says p.push_digit.result
 comes-to p =
     let a = p.before.before.before.before.args in
-    ap (λ (n : ℕ). pushed n a.at.value a.byte) (sym p.before.limit-of.ensures) ∙ sym p.push-digit.ensures
+    ap (λ (n : ℕ). pushed n a.at.value a.byte) (sym p.before.limit_of.ensures) ∙ sym p.push_digit.ensures
 
-fault-at-requires : tie.Need-fault-at-requires
-fault-at-requires c κs = search rules
+fault_at-requires : tie.Need-fault_at-requires
+fault_at-requires c κs = search rules
 
 returns : tie.Need-returns
-returns c = many_steps c.before.before.before.args.at _ c.before.before.before.requires.0 _ (omega (arith, c.before.if1.true)) c.fault-at.ensures
+returns c = many_steps c.before.before.before.args.at _ c.before.before.before.requires.0 _ (omega (arith, c.before.if1.true)) c.fault_at.ensures
 
-limit-of-requires : tie.Need-limit-of-requires
-limit-of-requires c κs = search rules
+limit_of-requires : tie.Need-limit_of-requires
+limit_of-requires c κs = search rules
 
-push-digit-requires : tie.Need-push-digit-requires
-push-digit-requires c κs = search rules
+push_digit-requires : tie.Need-push_digit-requires
+push_digit-requires c κs = search rules
 
-enum-known-value : tie.Need-enum-known-value
-enum-known-value c = search rules
+enum_known-value : tie.Need-enum_known-value
+enum_known-value c = search rules
 
-enum_told : tie.Need-enum-told
+enum_told : tie.Need-enum_told
 enum_told c = search rules
 
-fault-at-requires-2 : tie.Need-fault-at-requires-2
-fault-at-requires-2 c κs = search rules
+fault_at-requires-2 : tie.Need-fault_at-requires-2
+fault_at-requires-2 c κs = search rules
 
 returns-2 : tie.Need-returns-2
 returns-2 c =
     let p = c.before.before.before in
     let e = p.before.before in
     let s = e.before.before in
-    above_steps s.args.at _ s.requires.0 (omega (arith, e.if1.false)) _ (comes-to p ∙ ap push_says c.before.enum_told.given.1) c.fault-at2.ensures
+    above_steps s.args.at _ s.requires.0 (omega (arith, e.if1.false)) _ (comes-to p ∙ ap push_says c.before.enum_told.given.1) c.fault_at2.ensures
 
-add-t9 : tie.Need-overflow-add-t9
+add-t9 : tie.Need-overflow_add-t9
 add-t9 c = omega (arith, c.before.before.before.before.before.before.before.before.requires.1.0.places)
 
 returns-3 : tie.Need-returns-3
@@ -55,17 +55,17 @@ returns-3 c =
     let s = e.before.before in
     digit-steps s.args.at _ s.requires.0 (omega (arith, e.if1.false)) _ (comes-to p ∙ ap push_says v.value.given.1)
 
-pub with-digit-spec : {M : Type 1} → statement M
-with-digit-spec =
+pub with_digit_spec : {M : Type 1} → statement M
+with_digit_spec =
     tie.close
     (tie.spec
-    fault-at-requires
+    fault_at-requires
     returns
-    limit-of-requires
-    push-digit-requires
-    enum-known-value
+    limit_of-requires
+    push_digit-requires
+    enum_known-value
     enum_told
-    fault-at-requires-2
+    fault_at-requires-2
     returns-2
     add-t9
     returns-3)

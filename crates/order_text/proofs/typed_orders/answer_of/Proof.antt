@@ -13,5 +13,5 @@ returns c = sym (ap (λ (x : FillAnswer). read (fill_says x)) c.before.fill.give
 returns-2 : tie.Need-returns-2
 returns-2 c = sym (ap (λ (x : FillAnswer). read (fill_says x)) c.before.fill2.given.1)
 
-pub answer-of-spec : {M : Type 1} → statement M
-answer-of-spec = tie.close (tie.spec (λ c. search rules) (λ c. search rules) returns returns-2)
+pub answer_of_spec : {M : Type 1} → statement M
+answer_of_spec = tie.close (tie.spec (λ c. search rules) (λ c. search rules) returns returns-2)

@@ -13,8 +13,8 @@ invariant-loop figures demands₀ i₀ demands i = Copying figures demands₀ de
 abbrev decreases-loop : tie.decreases-loop
 decreases-loop figures demands₀ i₀ demands i = length figures - i
 
-pub load-demands-spec : {M : Type 1} → statement M
-load-demands-spec =
+pub load_demands_spec : {M : Type 1} → statement M
+load_demands_spec =
     tie.close
     (tie.spec
     invariant-loop

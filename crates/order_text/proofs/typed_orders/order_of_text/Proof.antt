@@ -14,14 +14,14 @@ use Rattle.order_text.proofs.typed_orders.order_of_text.Statement.{statement}
 use Rattle.order_text.proofs.typed_orders.order_of_text.Tie as tie
 
 -- what the text gives
-reads : (c : tie.After-read-figures) (r : Step) → c.read-figures.result ≡ r
-    → figures_of c.before.before.before.before.args.text.now ≡ on_read (λ s. s.figures) (step_says r c.read-figures.new.1.0)
-reads c r e = sym c.read-figures.ensures.0 ∙ ap (λ (x : Step). on_read (λ s. s.figures) (step_says x c.read-figures.new.1.0)) e
+reads : (c : tie.After-read_figures) (r : Step) → c.read_figures.result ≡ r
+    → figures_of c.before.before.before.before.args.text.now ≡ on_read (λ s. s.figures) (step_says r c.read_figures.new.1.0)
+reads c r e = sym c.read_figures.ensures.0 ∙ ap (λ (x : Step). on_read (λ s. s.figures) (step_says x c.read_figures.new.1.0)) e
 
 -- they lie inside the list
-inside : (c : tie.After-at) → c.at.given.0.0.count ≤ length c.before.before.before.read-figures.new.1.0
+inside : (c : tie.After-at) → c.at.given.0.0.count ≤ length c.before.before.before.read_figures.new.1.0
 inside c =
-    let f = subst StepFits c.at.given.1 c.before.before.before.read-figures.ensures.1 in
+    let f = subst StepFits c.at.given.1 c.before.before.before.read_figures.ensures.1 in
     omega (arith, f.few, c.before.before.figures2.given)
 
 returns : tie.Need-returns
@@ -30,14 +30,14 @@ returns c =
     let s = d.before.before.before.before.args in
     gives_fault s.text.now s.file.now _ (reads d _ c.before.fault.given.1)
 
-array-share-prefix-figures : tie.Need-array-share-prefix-figures
-array-share-prefix-figures c = inside c.before
+array_share_prefix-figures : tie.Need-array_share_prefix-figures
+array_share_prefix-figures c = inside c.before
 
-slice-aggregate-write-figures : tie.Need-slice-aggregate-write-figures
-slice-aggregate-write-figures c = sym (length-take-le _ _ (inside c.before.before))
+slice_aggregate-write_figures : tie.Need-slice_aggregate-write_figures
+slice_aggregate-write_figures c = sym (length-take-le _ _ (inside c.before.before))
 
-write-figures-requires : tie.Need-write-figures-requires
-write-figures-requires c κs =
+write_figures-requires : tie.Need-write_figures-requires
+write_figures-requires c κs =
     let a = c.before.before.before in
     text_figures _ _ (reads a.before.before.before _ a.at.given.1)
 
@@ -49,8 +49,8 @@ returns-2 c =
     let s = d.before.before.before.before.args in
     gives_file s.text.now s.file.now _ _ _ (reads d _ a.at.given.1) w.write_figures_lem.ensures.0 w.write_figures_lem.ensures.1
 
-pub order-of-text-spec : {M : Type 1} → statement M
-order-of-text-spec =
+pub order_of_text_spec : {M : Type 1} → statement M
+order_of_text_spec =
     tie.close
     (tie.spec
     (λ c. search rules)
@@ -58,8 +58,8 @@ order-of-text-spec =
     (λ c. search rules)
     (λ c. search rules)
     returns
-    array-share-prefix-figures
-    slice-aggregate-write-figures
-    write-figures-requires
+    array_share_prefix-figures
+    slice_aggregate-write_figures
+    write_figures-requires
     (λ c. search rules)
     returns-2)

@@ -13,15 +13,15 @@ use Rattle.order_text.specs.TextLaws.{copied_front, order-written}
 use Rattle.order_text.proofs.typed_orders.write_figures.Statement.{statement}
 use Rattle.order_text.proofs.typed_orders.write_figures.Tie as tie
 
-load-demands-requires : tie.Need-load-demands-requires
-load-demands-requires c κs =
+load_demands-requires : tie.Need-load_demands-requires
+load_demands-requires c κs =
     let s = c.before.before.before.before in
     let ns = s.args.figures.now in
     let e = part_to_end ns tariff_figures in
     (omega (arith, ap length e, length-drop tariff_figures ns, s.requires.few), subst (Fit 2) (sym e) (demands_fit ns s.requires))
 
-slice-aggregate-write-order : tie.Need-slice-aggregate-write-order
-slice-aggregate-write-order c =
+slice_aggregate-write_order : tie.Need-slice_aggregate-write_order
+slice_aggregate-write_order c =
     let s = c.before.before.before.before.before.before.before.before in
     sym (length-take-le _ _ (omega (arith, s.requires.few, c.before.before.demands2.given)))
 
@@ -34,11 +34,11 @@ returns c =
     let ns = s.args.figures.now in
     let e = part_to_end ns tariff_figures in
     let n = length-drop tariff_figures ns in
-    let front = copied_front (demands_of ns) _ d.load-demands.new.1.0 (length ns - 7) (sym n) (omega (arith, n, s.requires.few)) (d.load-demands.ensures ∙ ap (sets _ 0) e) in
-    order-written ns s.args.file.now _ _ _ _ _ t.tariff-of.ensures front c.answer-of.ensures w.write-order.ensures.0 w.write-order.ensures.1
+    let front = copied_front (demands_of ns) _ d.load_demands.new.1.0 (length ns - 7) (sym n) (omega (arith, n, s.requires.few)) (d.load_demands.ensures ∙ ap (sets _ 0) e) in
+    order-written ns s.args.file.now _ _ _ _ _ t.tariff_of.ensures front c.answer_of.ensures w.write_order.ensures.0 w.write_order.ensures.1
 
-pub write-figures-spec : {M : Type 1} → statement M
-write-figures-spec =
+pub write_figures_spec : {M : Type 1} → statement M
+write_figures_spec =
     tie.close
     (tie.spec
     (λ c. search rules)
@@ -46,10 +46,10 @@ write-figures-spec =
     (λ c. search rules)
     (λ c. search rules)
     (λ c. search rules)
-    load-demands-requires
+    load_demands-requires
     (λ c κs. search rules)
     (λ c. search rules)
-    slice-aggregate-write-order
+    slice_aggregate-write_order
     (λ c κs. search rules)
     (λ c κs. search rules)
     (λ c. search rules)

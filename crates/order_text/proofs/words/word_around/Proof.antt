@@ -10,22 +10,22 @@ use Rattle.order_text.proofs.words.word_around.Tie as tie
 shorter-requires : tie.Need-shorter-requires
 shorter-requires c κs = search rules
 
-word-start-requires : tie.Need-word-start-requires
-word-start-requires c κs = search rules
+word_start-requires : tie.Need-word_start-requires
+word_start-requires c κs = search rules
 
-word-end-requires : tie.Need-word-end-requires
-word-end-requires c κs =
+word_end-requires : tie.Need-word_end-requires
+word_end-requires c κs =
     let d = c.before in
     let s = d.before.before.args in
-    omega (arith, c.word-start.ensures, start_inside s.text.now d.shorter.result, d.shorter.ensures, min-le_right s.place (length s.text.now))
+    omega (arith, c.word_start.ensures, start_inside s.text.now d.shorter.result, d.shorter.ensures, min-le_right s.place (length s.text.now))
 
-sub-result : tie.Need-overflow-sub-result
+sub-result : tie.Need-overflow_sub-result
 sub-result c = search rules
 
-part-result-start : tie.Need-slice-bounds-result-start
+part-result-start : tie.Need-slice_bounds-result-start
 part-result-start c = search rules
 
-part-result-end : tie.Need-slice-bounds-result-end
+part-result-end : tie.Need-slice_bounds-result-end
 part-result-end c = search rules
 
 returns : tie.Need-returns
@@ -34,15 +34,15 @@ returns c =
     let b = e.before in
     let d = b.before in
     let s = d.before.before.args in
-    word_is s.text.now s.place _ _ _ d.shorter.ensures b.word-start.ensures e.word-end.ensures.0
+    word_is s.text.now s.place _ _ _ d.shorter.ensures b.word_start.ensures e.word_end.ensures.0
 
-pub word-around-spec : {M : Type 1} → statement M
-word-around-spec =
+pub word_around_spec : {M : Type 1} → statement M
+word_around_spec =
     tie.close
     (tie.spec
     shorter-requires
-    word-start-requires
-    word-end-requires
+    word_start-requires
+    word_end-requires
     sub-result
     part-result-start
     part-result-end

@@ -18,20 +18,20 @@ decreases-loop text start end₀ end = length text - end
 loop-holds : tie.Need-loop-init invariant-loop decreases-loop
 loop-holds c = (c.before.requires, refl)
 
-shared-slice-read-ends-figure : tie.Need-shared-slice-read-ends-figure invariant-loop decreases-loop
-shared-slice-read-ends-figure c = search rules
+shared_slice_read-ends_figure : tie.Need-shared_slice_read-ends_figure invariant-loop decreases-loop
+shared_slice_read-ends_figure c = search rules
 
-ends-figure-requires : tie.Need-ends-figure-requires invariant-loop decreases-loop
-ends-figure-requires c κs = search rules
+ends_figure-requires : tie.Need-ends_figure-requires invariant-loop decreases-loop
+ends_figure-requires c κs = search rules
 
 returns : tie.Need-returns invariant-loop decreases-loop
 returns c =
     let t = c.before.before.before in
     let l = t.before.loop in
     let text = t.before.before.before.args.text.now in
-    (omega (arith, l.invariant.1, length_end text l.end t.loop-test.true (sym c.before.ends-figure.ensures ∙ c.if1.true)), l.invariant.0)
+    (omega (arith, l.invariant.1, length_end text l.end t.loop-test.true (sym c.before.ends_figure.ensures ∙ c.if1.true)), l.invariant.0)
 
-add-end : tie.Need-overflow-add-end invariant-loop decreases-loop
+add-end : tie.Need-overflow_add-end invariant-loop decreases-loop
 add-end c = search rules
 
 loop-less : tie.Need-loop-smaller invariant-loop decreases-loop
@@ -42,7 +42,7 @@ loop-again c =
     let t = c.before.before.before in
     let l = t.before.loop in
     let text = t.before.before.before.args.text.now in
-    (omega (arith, t.loop-test.true), omega (arith, l.invariant.1, length_next text l.end t.loop-test.true (sym c.before.ends-figure.ensures ∙ c.if1.false)))
+    (omega (arith, t.loop-test.true), omega (arith, l.invariant.1, length_next text l.end t.loop-test.true (sym c.before.ends_figure.ensures ∙ c.if1.false)))
 
 returns-2 : tie.Need-returns-2 invariant-loop decreases-loop
 returns-2 c =
@@ -50,15 +50,15 @@ returns-2 c =
     let text = c.before.before.before.args.text.now in
     (omega (arith, l.invariant.1, length_none text l.end c.loop-test.false), l.invariant.0)
 
-pub word-end-spec : {M : Type 1} → statement M
-word-end-spec =
+pub word_end_spec : {M : Type 1} → statement M
+word_end_spec =
     tie.close
     (tie.spec
     invariant-loop
     decreases-loop
     loop-holds
-    shared-slice-read-ends-figure
-    ends-figure-requires
+    shared_slice_read-ends_figure
+    ends_figure-requires
     returns
     add-end
     loop-less

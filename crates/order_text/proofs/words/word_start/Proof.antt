@@ -18,33 +18,33 @@ abbrev decreases-loop : tie.decreases-loop
 decreases-loop text place front start₀ start = start
 
 -- what the test comes to
-tests : (c : tie.After-ends-figure invariant-loop decreases-loop) → let l = c.before.before.before in let m = l.before in
-    begins m.before.before.args.text.now l.loop.start (l.loop.start - 1) ≡ eqb l.loop.start m.mark-length.result || c.ends-figure.result
+tests : (c : tie.After-ends_figure invariant-loop decreases-loop) → let l = c.before.before.before in let m = l.before in
+    begins m.before.before.args.text.now l.loop.start (l.loop.start - 1) ≡ eqb l.loop.start m.mark_length.result || c.ends_figure.result
 tests c =
     let l = c.before.before.before in
-    ap₂ (λ (n : ℕ) (t : Bool). eqb l.loop.start n || t) (sym l.before.mark-length.ensures) (sym c.ends-figure.ensures)
+    ap₂ (λ (n : ℕ) (t : Bool). eqb l.loop.start n || t) (sym l.before.mark_length.ensures) (sym c.ends_figure.ensures)
 
-mark-length-requires : tie.Need-mark-length-requires invariant-loop decreases-loop
-mark-length-requires c κs = search rules
+mark_length-requires : tie.Need-mark_length-requires invariant-loop decreases-loop
+mark_length-requires c κs = search rules
 
 loop-holds : tie.Need-loop-init invariant-loop decreases-loop
 loop-holds c = (c.before.before.requires, refl)
 
-sub-ends-figure : tie.Need-overflow-sub-ends-figure invariant-loop decreases-loop
-sub-ends-figure c = search rules
+sub-ends_figure : tie.Need-overflow_sub-ends_figure invariant-loop decreases-loop
+sub-ends_figure c = search rules
 
-shared-slice-read-ends-figure : tie.Need-shared-slice-read-ends-figure invariant-loop decreases-loop
-shared-slice-read-ends-figure c = omega (arith, c.before.before.loop.invariant.0, c.before.loop-test.true)
+shared_slice_read-ends_figure : tie.Need-shared_slice_read-ends_figure invariant-loop decreases-loop
+shared_slice_read-ends_figure c = omega (arith, c.before.before.loop.invariant.0, c.before.loop-test.true)
 
-ends-figure-requires : tie.Need-ends-figure-requires invariant-loop decreases-loop
-ends-figure-requires c κs = search rules
+ends_figure-requires : tie.Need-ends_figure-requires invariant-loop decreases-loop
+ends_figure-requires c κs = search rules
 
 returns : tie.Need-returns invariant-loop decreases-loop
 returns c =
     let t = c.before.before.before in
     sym (start_is _ true _ t.loop-test.true (tests c.before ∙ c.if1.true)) ∙ t.before.loop.invariant.1
 
-sub-start : tie.Need-overflow-sub-start invariant-loop decreases-loop
+sub-start : tie.Need-overflow_sub-start invariant-loop decreases-loop
 sub-start c = search rules
 
 loop-less : tie.Need-loop-smaller invariant-loop decreases-loop
@@ -61,17 +61,17 @@ returns-2 c =
     let l = c.before in
     omega (arith, l.loop.invariant.1, start_inside l.before.before.before.args.text.now l.loop.start, c.loop-test.false)
 
-pub word-start-spec : {M : Type 1} → statement M
-word-start-spec =
+pub word_start_spec : {M : Type 1} → statement M
+word_start_spec =
     tie.close
     (tie.spec
     invariant-loop
     decreases-loop
-    mark-length-requires
+    mark_length-requires
     loop-holds
-    sub-ends-figure
-    shared-slice-read-ends-figure
-    ends-figure-requires
+    sub-ends_figure
+    shared_slice_read-ends_figure
+    ends_figure-requires
     returns
     sub-start
     loop-less

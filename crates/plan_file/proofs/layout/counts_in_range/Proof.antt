@@ -4,7 +4,7 @@ use Rattle.plan_file.proofs.layout.counts_in_range.Statement.{statement}
 use Rattle.plan_file.proofs.layout.counts_in_range.Tie as tie
 
 returns : tie.Need-returns
-returns c = rw c.periods-in-range.ensures
+returns c = rw c.periods_in_range.ensures
 
-pub counts-in-range-spec : {M : Type 1} → statement M
-counts-in-range-spec = tie.close (tie.spec (λ c κs. search rules) returns)
+pub counts_in_range_spec : {M : Type 1} → statement M
+counts_in_range_spec = tie.close (tie.spec (λ c κs. search rules) returns)

@@ -26,7 +26,7 @@ kind : (c : tie.Else2) → eqb (number_at 4 c.before.before.before.before.args.b
 kind c = eq-eqb _ _ (sym c.before.word_at.ensures ∙ c.if2.false)
 
 -- T and k are what is read
-counts-are : (c : tie.After-word-at3) → let bs = c.before.before.before.before.before.before.args.bytes.now in
+counts-are : (c : tie.After-word_at3) → let bs = c.before.before.before.before.before.before.args.bytes.now in
     (T k : ℕ) → T ≡ number_at 4 bs 4 → k ≡ number_at 4 bs 8 → counts_ok (number_at 4 bs 4) (number_at 4 bs 8) ≡ counts_ok T k
 counts-are c T k e f = ap₂ counts_ok (sym e) (sym f)
 
@@ -34,7 +34,7 @@ counts : (c : tie.Else3) → let bs = c.before.before.before.before.before.befor
     counts_ok (number_at 4 bs 4) (number_at 4 bs 8) ≡ true
 counts c =
     let d = c.before.before in
-    counts-are d _ _ d.before.word-at2.ensures d.word-at3.ensures ∙ check_passed c.before.counts-in-range.ensures c.if3.false
+    counts-are d _ _ d.before.word_at2.ensures d.word_at3.ensures ∙ check_passed c.before.counts_in_range.ensures c.if3.false
 
 range : (c : tie.Else3) → let bs = c.before.before.before.before.before.before.before.before.args.bytes.now in
     CountsRange (number_at 4 bs 4) (number_at 4 bs 8)
@@ -44,7 +44,7 @@ places : (c : tie.Else4) → plan_placed c.before.before.before.before.before.be
 places c =
     let d = c.before.before.before.before in
     let bs = d.before.before.before.before.before.before.args.bytes.now in
-    ap (λ (n : ℕ). placed_as 12 cost_offset buckets_offset (plan_length n) bs) (sym d.word-at3.ensures) ∙ check_passed c.before.placed.ensures c.if4.false
+    ap (λ (n : ℕ). placed_as 12 cost_offset buckets_offset (plan_length n) bs) (sym d.word_at3.ensures) ∙ check_passed c.before.placed.ensures c.if4.false
 
 bytes-are : (c : tie.Else4) → let bs = c.before.before.before.before.before.before.before.before.before.before.args.bytes.now in
     length bs ≡ plan_length (number_at 4 bs 8)
@@ -71,7 +71,7 @@ returns-3 : tie.Need-returns-3
 returns-3 c =
     let w = c.before.before in
     let d = w.before.before in
-    let e = counts-are w _ _ w.before.word-at2.ensures w.word-at3.ensures ∙ check_failed c.before.counts-in-range.ensures c.if3.true in
+    let e = counts-are w _ _ w.before.word_at2.ensures w.word_at3.ensures ∙ check_failed c.before.counts_in_range.ensures c.if3.true in
     sym (ap recorded_figures (plan-periods _ (long d.before.before) (kind d) e))
 
 returns-4 : tie.Need-returns-4
@@ -80,11 +80,11 @@ returns-4 c =
     let w = d.before.before in
     let k = w.before.before in
     let bs = k.before.before.before.before.args.bytes.now in
-    let e = ap (λ (n : ℕ). placed_as 12 cost_offset buckets_offset (plan_length n) bs) (sym w.word-at3.ensures) in
+    let e = ap (λ (n : ℕ). placed_as 12 cost_offset buckets_offset (plan_length n) bs) (sym w.word_at3.ensures) in
     sym (ap recorded_figures (plan_misplaced _ (long k.before.before) (kind k) (counts d) (e ∙ check_failed c.before.placed.ensures c.if4.true)))
 
-number-at-requires : tie.Need-number-at-requires
-number-at-requires c κs = (omega arith, omega (arith, bytes-are c))
+number_at-requires : tie.Need-number_at-requires
+number_at-requires c κs = (omega arith, omega (arith, bytes-are c))
 
 returns-5 : tie.Need-returns-5
 returns-5 c =
@@ -94,12 +94,12 @@ returns-5 c =
     let e = ap (λ (n : ℕ). leb n cost_limit) (sym c.before.number_at.ensures.0) ∙ lt-leb _ _ c.if5.true in
     sym (ap recorded_figures (plan-cost _ (long k.before.before) (kind k) (counts d) (places p) e))
 
-records-in-file-requires : tie.Need-records-in-file-requires
-records-in-file-requires c κs =
+records_in_file-requires : tie.Need-records_in_file-requires
+records_in_file-requires c κs =
     let p = c.before.before in
     let d = p.before.before in
     let r = range d in
-    let e = d.before.before.word-at3.ensures in
+    let e = d.before.before.word_at3.ensures in
     (omega (arith, bytes-are p, e), omega (arith, r.few, r.periods.few, e))
 
 returns-6 : tie.Need-returns-6
@@ -109,7 +109,7 @@ returns-6 c =
     let d = p.before.before in
     let w = d.before.before in
     let k = w.before.before in
-    let e = records_are _ _ _ w.before.word-at2.ensures w.word-at3.ensures ∙ check_failed c.before.records-in-file.ensures c.if6.true in
+    let e = records_are _ _ _ w.before.word_at2.ensures w.word_at3.ensures ∙ check_failed c.before.records_in_file.ensures c.if6.true in
     sym (ap recorded_figures (plan-records _ (long k.before.before) (kind k) (counts d) (places p) (cost o) e))
 
 returns-7 : tie.Need-returns-7
@@ -120,12 +120,12 @@ returns-7 c =
     let w = d.before.before in
     let k = w.before.before in
     let bs = k.before.before.before.before.args.bytes.now in
-    let e = records_are bs _ _ w.before.word-at2.ensures w.word-at3.ensures ∙ check_passed c.before.records-in-file.ensures c.if6.false in
-    figures_are bs _ _ _ w.before.word-at2.ensures w.word-at3.ensures o.before.number_at.ensures.0
+    let e = records_are bs _ _ w.before.word_at2.ensures w.word_at3.ensures ∙ check_passed c.before.records_in_file.ensures c.if6.false in
+    figures_are bs _ _ _ w.before.word_at2.ensures w.word_at3.ensures o.before.number_at.ensures.0
     ∙ sym (ap recorded_figures (plan_figures_lem bs (long k.before.before) (kind k) (counts d) (places p) (cost o) e))
 
-pub plan-in-spec : {M : Type 1} → statement M
-plan-in-spec =
+pub plan_in_spec : {M : Type 1} → statement M
+plan_in_spec =
     tie.close
     (tie.spec
     returns
@@ -140,9 +140,9 @@ plan-in-spec =
     (λ c. search rules)
     (λ c κs. search rules)
     returns-4
-    number-at-requires
+    number_at-requires
     returns-5
     (λ c. search rules)
-    records-in-file-requires
+    records_in_file-requires
     returns-6
     returns-7)

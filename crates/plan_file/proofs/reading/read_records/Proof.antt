@@ -15,24 +15,24 @@ use Rattle.plan_file.proofs.reading.read_records.Statement.{statement}
 use Rattle.plan_file.proofs.reading.read_records.Tie as tie
 
 -- the call that weighs the file, from where the plan's figures are known
-abbrev weighed : tie.After-struct-known → tie.After-plan-in
+abbrev weighed : tie.After-struct_known → tie.After-plan_in
 weighed c = c.before.before.before.before
 
 -- the plan's figures, where it is read
-abbrev found : tie.After-struct-known → PlanFigures
+abbrev found : tie.After-struct_known → PlanFigures
 found c = c.before.before.answer.given.0.0
 
-read : (c : tie.After-struct-known) → figures (found c) ≡ recorded_figures (plan_in (weighed c).before.before.args.bytes.now)
-read c = sym (ap plan_says c.before.before.answer.given.1) ∙ (weighed c).plan-in.ensures
+read : (c : tie.After-struct_known) → figures (found c) ≡ recorded_figures (plan_in (weighed c).before.before.args.bytes.now)
+read c = sym (ap plan_says c.before.before.answer.given.1) ∙ (weighed c).plan_in.ensures
 
-plan : (c : tie.After-struct-known) → IsPlan (weighed c).before.before.args.bytes.now (found c)
+plan : (c : tie.After-struct_known) → IsPlan (weighed c).before.before.args.bytes.now (found c)
 plan c = is_plan _ _ (read c)
 
 -- the bytes are the very file of what is read
-very : (c : tie.After-plan-in) → let s = c.before.before.args in VeryPlan s.bytes.now (read_plan s.room s.bytes.now)
+very : (c : tie.After-plan_in) → let s = c.before.before.args in VeryPlan s.bytes.now (read_plan s.room s.bytes.now)
 very c =
     let s = c.before.before.args in
-    let bytes : Bytes s.bytes.now = record { each = λ i. omega (arith, c.before.shared-slice-known.given i) } in
+    let bytes : Bytes s.bytes.now = record { each = λ i. omega (arith, c.before.shared_slice_known.given i) } in
     very_plan s.bytes.now bytes s.room _ refl
 
 returns : tie.Need-returns
@@ -40,29 +40,29 @@ returns c =
     let t = c.before in
     let p = t.before.before in
     let s = p.before.before.args in
-    let e = p.plan-in.ensures in
-    let r = read-refused s.bytes.now s.room _ _ _ e (on_refused _ (plan_in s.bytes.now) (sym e ∙ ap plan_says t.enum_told.given.1)) c.blank-records.ensures in
+    let e = p.plan_in.ensures in
+    let r = read-refused s.bytes.now s.room _ _ _ e (on_refused _ (plan_in s.bytes.now) (sym e ∙ ap plan_says t.enum_told.given.1)) c.blank_records.ensures in
     (r.0, (r.1, very p))
 
 returns-2 : tie.Need-returns-2
 returns-2 c =
     let t = c.before in
     let p = weighed t.before in
-    let r = read_full p.before.before.args.bytes.now p.before.before.args.room _ (plan t.before) _ (lt-leb _ _ t.if1.true) c.blank-records2.ensures in
+    let r = read_full p.before.before.args.bytes.now p.before.before.args.room _ (plan t.before) _ (lt-leb _ _ t.if1.true) c.blank_records2.ensures in
     (r.0, (r.1, very p))
 
-load-array-requires : tie.Need-load-array-requires
-load-array-requires c κs = (omega (arith, (plan c.before).bytes), plan-few _ _ (read c.before))
+load_array-requires : tie.Need-load_array-requires
+load_array-requires c κs = (omega (arith, (plan c.before).bytes), plan-few _ _ (read c.before))
 
 returns-3 : tie.Need-returns-3
 returns-3 c =
     let e = c.before in
     let p = weighed e.before in
-    let r = read_loaded p.before.before.args.bytes.now p.before.before.args.room _ (plan e.before) _ (le-leb _ _ e.if1.false) (read e.before) c.load-array.ensures in
+    let r = read_loaded p.before.before.args.bytes.now p.before.before.args.room _ (plan e.before) _ (le-leb _ _ e.if1.false) (read e.before) c.load_array.ensures in
     (r.0, (r.1, very p))
 
-pub read-records-spec : {M : Type 1} → statement M
-read-records-spec =
+pub read_records_spec : {M : Type 1} → statement M
+read_records_spec =
     tie.close
     (tie.spec
     (λ c κs. search rules)
@@ -73,5 +73,5 @@ read-records-spec =
     (λ c. search rules)
     (λ c κs. search rules)
     returns-2
-    load-array-requires
+    load_array-requires
     returns-3)

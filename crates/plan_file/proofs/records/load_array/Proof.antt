@@ -53,34 +53,34 @@ abbrev decreases-loop : tie.decreases-loop
 decreases-loop bytes buckets records₀ at₀ i₀ records at i = buckets - i
 
 loop-holds : tie.Need-loop-init invariant-loop decreases-loop
-loop-holds c = begin _ _ _ c.blank-records.ensures
+loop-holds c = begin _ _ _ c.blank_records.ensures
 
-record-at-requires : tie.Need-record-at-requires invariant-loop decreases-loop
-record-at-requires c κs = omega (arith, c.before.loop.invariant.place, c.loop-test.true, c.before.before.before.before.requires.0)
+record_at-requires : tie.Need-record_at-requires invariant-loop decreases-loop
+record_at-requires c κs = omega (arith, c.before.loop.invariant.place, c.loop-test.true, c.before.before.before.before.requires.0)
 
-array-set-from-records : tie.Need-array-set-from-records invariant-loop decreases-loop
-array-set-from-records c = let i = c.before in omega (arith, i.loop-test.true, i.before.before.before.before.requires.1)
+array_set_from-records : tie.Need-array_set_from-records invariant-loop decreases-loop
+array_set_from-records c = let i = c.before in omega (arith, i.loop-test.true, i.before.before.before.before.requires.1)
 
-add_at : tie.Need-overflow-add-at invariant-loop decreases-loop
+add_at : tie.Need-overflow_add-at invariant-loop decreases-loop
 add_at c = let i = c.before in omega (arith, i.before.loop.invariant.place, i.loop-test.true, i.before.before.before.before.requires.1)
 
 loop-again : tie.Need-loop-preserved invariant-loop decreases-loop
-loop-again c = let i = c.before in next _ _ i.before.loop.invariant i.loop-test.true _ c.record-at.ensures
+loop-again c = let i = c.before in next _ _ i.before.loop.invariant i.loop-test.true _ c.record_at.ensures
 
 returns : tie.Need-returns invariant-loop decreases-loop
 returns c = end _ _ c.before.loop.invariant c.loop-test.false c.before.before.before.before.requires.1
 
-pub load-array-spec : {M : Type 1} → statement M
-load-array-spec =
+pub load_array_spec : {M : Type 1} → statement M
+load_array_spec =
     tie.close
     (tie.spec
     invariant-loop
     decreases-loop
     (λ c κs. search rules)
     loop-holds
-    record-at-requires
+    record_at-requires
     (λ c. search rules)
-    array-set-from-records
+    array_set_from-records
     add_at
     (λ c. search rules)
     (λ c. search rules)

@@ -51,19 +51,19 @@ decreases-loop bytes₀ at buckets records next₀ i₀ bytes next i = buckets -
 loop-holds : tie.Need-loop-init invariant-loop decreases-loop
 loop-holds c = begin _ _ _ _
 
-array-copy-out-x : tie.Need-array-copy-out-x invariant-loop decreases-loop
-array-copy-out-x c = omega (arith, c.loop-test.true, c.before.before.before.requires.1)
+array_copy_out-x : tie.Need-array_copy_out-x invariant-loop decreases-loop
+array_copy_out-x c = omega (arith, c.loop-test.true, c.before.before.before.requires.1)
 
-put-words-requires : tie.Need-put-words-requires invariant-loop decreases-loop
-put-words-requires c κs =
+put_words-requires : tie.Need-put_words-requires invariant-loop decreases-loop
+put_words-requires c κs =
     let i = c.before.before.before in
     let p = i.before.loop.invariant in
     omega (arith, p.place, p.stored.same, i.loop-test.true, i.before.before.before.requires.0)
 
-abbrev entered : tie.After-slice-known2 invariant-loop decreases-loop → tie.In-loop invariant-loop decreases-loop
+abbrev entered : tie.After-slice_known2 invariant-loop decreases-loop → tie.In-loop invariant-loop decreases-loop
 entered c = c.before.before.before.before.before.before
 
-add-next : tie.Need-overflow-add-next invariant-loop decreases-loop
+add-next : tie.Need-overflow_add-next invariant-loop decreases-loop
 add-next c =
     let i = entered c in
     let s = i.before.before.before in
@@ -73,25 +73,25 @@ loop-again : tie.Need-loop-preserved invariant-loop decreases-loop
 loop-again c =
     let i = entered c in
     let s = i.before.before.before in
-    onward _ _ _ _ i.before.loop.inv (omega (arith, s.pre.1, s.good.1.1.1.0.1.0.1)) i.loop-test.taken _ c.before.before.put-words.ensures
+    onward _ _ _ _ i.before.loop.inv (omega (arith, s.pre.1, s.good.1.1.1.0.1.0.1)) i.loop-test.taken _ c.before.before.put_words.ensures
 
-same_length : tie.Need-same-length invariant-loop decreases-loop
+same_length : tie.Need-same_length invariant-loop decreases-loop
 same_length c = c.before.loop.invariant.stored.same
 
 returns : tie.Need-returns invariant-loop decreases-loop
 returns c = end _ _ _ _ c.before.loop.invariant c.loop-test.false
 
-pub put-records-spec : {M : Type 1} → statement M
-put-records-spec =
+pub put_records_spec : {M : Type 1} → statement M
+put_records_spec =
     tie.close
     (tie.spec
     invariant-loop
     decreases-loop
     loop-holds
     (λ c. search rules)
-    array-copy-out-x
+    array_copy_out-x
     (λ c. search rules)
-    put-words-requires
+    put_words-requires
     add-next
     (λ c. search rules)
     (λ c. search rules)

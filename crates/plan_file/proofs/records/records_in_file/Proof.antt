@@ -36,8 +36,8 @@ decreases-loop bytes periods buckets tally₀ at₀ i₀ tally at i = buckets - 
 loop-holds : tie.Need-loop-init invariant-loop decreases-loop
 loop-holds c = begin _ _
 
-record-at-requires : tie.Need-record-at-requires invariant-loop decreases-loop
-record-at-requires c κs =
+record_at-requires : tie.Need-record_at-requires invariant-loop decreases-loop
+record_at-requires c κs =
     let s = c.before.before.before in
     omega (arith, c.before.loop.invariant.place, c.loop-test.true, s.requires.0)
 
@@ -47,7 +47,7 @@ push-requires c κs =
     let s = i.before.before.before in
     omega (arith, i.before.loop.invariant.weighed.small, i.loop-test.true, s.requires.1)
 
-add_at : tie.Need-overflow-add-at invariant-loop decreases-loop
+add_at : tie.Need-overflow_add-at invariant-loop decreases-loop
 add_at c =
     let i = c.before.before in
     let s = i.before.before.before in
@@ -62,20 +62,20 @@ loop-again c =
     let next = items_next (record_at bs) 12 _ i.before.loop.i i.before.loop.at i.loop-test.true in
     record {
       place = omega (arith, w.place);
-      weighed = one_weighed _ w.weighed _ _ (next ∙ ap (λ (x : BucketRecord). x ∷ rest) (sym c.before.record-at.ensures)) _ c.push.ensures.0 c.push.ensures.1;
+      weighed = one_weighed _ w.weighed _ _ (next ∙ ap (λ (x : BucketRecord). x ∷ rest) (sym c.before.record_at.ensures)) _ c.push.ensures.0 c.push.ensures.1;
     }
 
 returns : tie.Need-returns invariant-loop decreases-loop
 returns c = c.whole.ensures ∙ all_weighed _ c.before.before.loop.invariant.weighed (items_none _ 12 _ _ _ c.before.loop-test.false) _
 
-pub records-in-file-spec : {M : Type 1} → statement M
-records-in-file-spec =
+pub records_in_file_spec : {M : Type 1} → statement M
+records_in_file_spec =
     tie.close
     (tie.spec
     invariant-loop
     decreases-loop
     loop-holds
-    record-at-requires
+    record_at-requires
     push-requires
     add_at
     (λ c. search rules)

@@ -13,10 +13,10 @@ returns c =
     let s = w.before.before.before.before.before.args in
     let words = plan_words s.plan.periods s.plan.buckets in
     sets_both s.bytes.now (bytes_of_all (bytes_of 4) words) (bytes_of 8 s.plan.cost) _ _ cost_offset
-    (length_all (bytes_of 4) 4 (length-bytes 4) words) w.put-words.ensures c.before.before.put-number.ensures
+    (length_all (bytes_of 4) 4 (length-bytes 4) words) w.put_words.ensures c.before.before.put_number.ensures
 
-pub put-header-spec : {M : Type 1} → statement M
-put-header-spec =
+pub put_header_spec : {M : Type 1} → statement M
+put_header_spec =
     tie.close
     (tie.spec
     (λ c. search rules)

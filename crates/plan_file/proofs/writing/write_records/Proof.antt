@@ -23,7 +23,7 @@ use Rattle.plan_file.proofs.writing.write_records.Tie as tie
 
 -- past the first test, past the second, and so on
 counts : (c : tie.Else1) → let s = c.before.before.before.args in counts_ok s.plan.periods s.plan.buckets ≡ true
-counts c = check_passed c.before.counts-in-range.ensures c.if1.false
+counts c = check_passed c.before.counts_in_range.ensures c.if1.false
 
 few : (c : tie.Else1) → c.before.before.before.args.plan.buckets ≤ trace_limit
 few c =
@@ -42,10 +42,10 @@ abbrev first : tie.Start → Cutting
 first s = take s.args.plan.buckets s.args.records
 
 count : (c : tie.Else1) → length (first c.before.before.before) ≡ c.before.before.before.args.plan.buckets
-count c = length-take-le _ _ (omega (arith, few c, c.before.before.before.well-formed.1.1.0.1.0.1))
+count c = length-take-le _ _ (omega (arith, few c, c.before.before.before.well_formed.1.1.0.1.0.1))
 
 records : (c : tie.Else4) → let s = c.before.before.before.before.before.before.before.before.before in records_ok s.args.plan.periods (first s) ≡ true
-records c = check_passed c.before.records-in-range.ensures c.if4.false
+records c = check_passed c.before.records_in_range.ensures c.if4.false
 
 -- the header stored with the number of records, and then the records
 stored : (T k cost : ℕ) (xs : Cutting) → length xs ≡ k → (old new newer : List ℕ) → new ≡ sets old 0 (bytes_of_all (bytes_of 4) (plan_words T k) ++ bytes_of 8 cost)
@@ -55,7 +55,7 @@ stored T k cost xs n old new newer e f =
     ∙ ap (λ (m : ℕ). sets old 0 (bytes_of_all (bytes_of 4) (plan_words T m) ++ bytes_of 8 cost ++ bytes_of_all record_bytes xs)) (sym n)
 
 returns : tie.Need-returns
-returns c = fill_refused _ c.before.before.before.args.bytes.now 3 (write_periods _ _ _ _ (check_failed c.before.counts-in-range.ensures c.if1.true))
+returns c = fill_refused _ c.before.before.before.args.bytes.now 3 (write_periods _ _ _ _ (check_failed c.before.counts_in_range.ensures c.if1.true))
 
 returns-2 : tie.Need-returns-2
 returns-2 c =
@@ -68,8 +68,8 @@ returns-3 c =
     let d = o.before.before in
     fill_refused _ d.before.before.before.args.bytes.now 6 (write_list _ _ _ _ (counts d) (cost o) (lt-leb _ _ c.if3.true))
 
-records-in-range-requires : tie.Need-records-in-range-requires
-records-in-range-requires c κs = few c.before.before.before.before
+records_in_range-requires : tie.Need-records_in_range-requires
+records_in_range-requires c κs = few c.before.before.before.before
 
 returns-4 : tie.Need-returns-4
 returns-4 c =
@@ -77,7 +77,7 @@ returns-4 c =
     let o = l.before.before in
     let d = o.before.before in
     fill_refused _ d.before.before.before.args.bytes.now 5
-    (write_records _ _ _ _ (counts d) (cost o) (list l) (check_failed c.before.records-in-range.ensures c.if4.true))
+    (write_records _ _ _ _ (counts d) (cost o) (list l) (check_failed c.before.records_in_range.ensures c.if4.true))
 
 returns-5 : tie.Need-returns-5
 returns-5 c =
@@ -87,13 +87,13 @@ returns-5 c =
     let d = o.before.before in
     fill_refused _ d.before.before.before.args.bytes.now 6 (write_room _ _ _ _ (counts d) (cost o) (list l) (records r) (lt-leb _ _ c.if5.true))
 
-put-header-requires : tie.Need-put-header-requires
-put-header-requires c κs =
+put_header-requires : tie.Need-put_header-requires
+put_header-requires c κs =
     let e = c.before in
     (omega (arith, e.if5.false), few e.before.before.before.before.before.before.before)
 
-put-records-requires : tie.Need-put-records-requires
-put-records-requires c κs =
+put_records-requires : tie.Need-put_records-requires
+put_records-requires c κs =
     let e = c.before.before.before.before.before in
     (omega (arith, e.if5.false), few e.before.before.before.before.before.before.before)
 
@@ -111,10 +111,10 @@ returns-6 c =
     fill_stored _ a.bytes.now (plan_bytes a.plan.periods a.plan.cost (first s)) _ _
     (write_figures_lem _ _ _ _ (counts d) (cost o) (list l) (records r) (le-leb _ _ e.if5.false))
     (sym (n ∙ ap plan_length (count d))) (omega (arith, e.if5.false, n, count d))
-    (stored a.plan.periods a.plan.buckets a.plan.cost (first s) (count d) _ _ _ h.put-header.ensures c.before.before.put-records.ensures)
+    (stored a.plan.periods a.plan.buckets a.plan.cost (first s) (count d) _ _ _ h.put_header.ensures c.before.before.put_records.ensures)
 
-pub write-records-spec : {M : Type 1} → statement M
-write-records-spec =
+pub write_records_spec : {M : Type 1} → statement M
+write_records_spec =
     tie.close
     (tie.spec
     (λ c κs. search rules)
@@ -122,12 +122,12 @@ write-records-spec =
     returns-2
     (λ c. search rules)
     returns-3
-    records-in-range-requires
+    records_in_range-requires
     returns-4
     (λ c. search rules)
     (λ c. search rules)
     returns-5
-    put-header-requires
-    put-records-requires
+    put_header-requires
+    put_records-requires
     (λ c. search rules)
     returns-6)

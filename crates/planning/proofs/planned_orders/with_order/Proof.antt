@@ -14,5 +14,5 @@ returns c = sym (ap (λ (a : SeriesAnswer). on_figures (with_order c.before.befo
 returns-2 : tie.Need-returns-2
 returns-2 c = sym (ap (λ (a : SeriesAnswer). on_figures (with_order c.before.before.before.args.order) (series_says a)) c.before.answer2.given.1)
 
-pub with-order-spec : {M : Type 1} → statement M
-with-order-spec = tie.close (tie.spec (λ c. search rules) (λ c. search rules) returns returns-2)
+pub with_order_spec : {M : Type 1} → statement M
+with_order_spec = tie.close (tie.spec (λ c. search rules) (λ c. search rules) returns returns-2)

@@ -8,5 +8,5 @@ returns : tie.Need-returns
 unfolding blank
 returns c = search rules
 
-pub blank-records-spec : {M : Type 1} → statement M
-blank-records-spec = tie.close (tie.spec returns)
+pub blank_records_spec : {M : Type 1} → statement M
+blank_records_spec = tie.close (tie.spec returns)

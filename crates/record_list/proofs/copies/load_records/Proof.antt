@@ -365,13 +365,13 @@ meets {𝓤 = 𝓤} 𝓛 at_mem run 𝓣 known-blank-records known-with-record =
     walk_Meets 𝓛 self.ended stayed (goes 𝓛 at_mem run) (self.clauses 𝓛 at_mem run)
     (WpFn 𝓤 𝓛.H 𝓣.C 𝓣.Λ code.function) (WpFn-mono 𝓤 𝓛.H 𝓛.laws 𝓣 code.function) (walks 𝓛 at_mem run 𝓣 known-blank-records known-with-record)
 
-pub load-records-spec : {M : Type 1} → stated.statement M
+pub load_records_spec : {M : Type 1} → stated.statement M
 unfolding code.routine tables_of
-load-records-spec 𝓤 𝓛 𝓜 𝓡 =
+load_records_spec 𝓤 𝓛 𝓜 𝓡 =
     entered 𝓤 𝓛.H (triple_of 𝓛 self.signature (self.spec 𝓛 𝓜.mem 𝓡.run))
     (tables 𝓤 𝓛.H 𝓜 𝓡 code.env).C (tables 𝓤 𝓛.H 𝓜 𝓡 code.env).Λ #key code.function (code.unfolded 𝓤 𝓛.H 𝓜 𝓡)
     (meets 𝓛 𝓜.mem 𝓡.run (tables_of 𝓤 𝓛.H 𝓜 (tables 𝓤 𝓛.H 𝓜 𝓡 code.env))
     (cited 𝓤 𝓛.H (BlankRecords 𝓛 𝓜.mem 𝓡.run)
-    𝓜 𝓡 code.env #blank-records blank-records-def.routine code.calls-record-list::arrays::blank-records (blank-records-thm.met 𝓤 𝓛 𝓜 𝓡))
+    𝓜 𝓡 code.env #blank-records blank-records-def.routine code.calls-record_list::arrays::blank_records (blank-records-thm.met 𝓤 𝓛 𝓜 𝓡))
     (cited 𝓤 𝓛.H (WithRecord 𝓛 𝓜.mem 𝓡.run)
-    𝓜 𝓡 code.env #with-record with-record-def.routine code.calls-record-list::arrays::with-record (with-record-thm.met 𝓤 𝓛 𝓜 𝓡)))
+    𝓜 𝓡 code.env #with-record with-record-def.routine code.calls-record_list::arrays::with_record (with-record-thm.met 𝓤 𝓛 𝓜 𝓡)))

@@ -28,7 +28,7 @@ abbrev start_of : tie.In-loop invariant-loop decreases-loop → tie.Start invari
 start_of c = c.before.before.before
 
 fits : (s : tie.Start invariant-loop decreases-loop) → s.args.buckets ≤ length s.args.t4
-fits s = let l = s.requires.0 in omega (arith, l.few, l.periods.few, s.well-formed.1.1.1.0.1.0.1)
+fits s = let l = s.requires.0 in omega (arith, l.few, l.periods.few, s.well_formed.1.1.1.0.1.0.1)
 
 -- the run's part of the trace
 inside : (c : tie.In-loop invariant-loop decreases-loop) → let s = (start_of c).args in
@@ -38,48 +38,48 @@ inside c =
     let l = c.before.loop in
     run_inside s.args.buckets s.args.t4 s.args.trace.now l.start l.i l.invariant.begins (fits s) c.loop-test.true
 
-abbrev entered : tie.After-meter-run invariant-loop decreases-loop → tie.In-loop invariant-loop decreases-loop
+abbrev entered : tie.After-meter_run invariant-loop decreases-loop → tie.In-loop invariant-loop decreases-loop
 entered c = c.before.before.before.before
 
-ran : (c : tie.After-meter-run invariant-loop decreases-loop) → let i = entered c in let l = i.before.loop in let s = (start_of i).args in
+ran : (c : tie.After-meter_run invariant-loop decreases-loop) → let i = entered c in let l = i.before.loop in let s = (start_of i).args in
     let x = get_or s.t4 l.i no_record in
-    open_says c.meter-run.result ≡ meter_run x.bucket s.factor (take x.periods (drop l.start s.trace.now))
+    open_says c.meter_run.result ≡ meter_run x.bucket s.factor (take x.periods (drop l.start s.trace.now))
 ran c =
     let i = entered c in
     let l = i.before.loop in
     let s = (start_of i).args in
     let x = get_or s.t4 l.i no_record in
-    c.meter-run.ensures ∙ ap (meter_run x.bucket s.factor) (part-is s.trace.now l.start x.periods)
+    c.meter_run.ensures ∙ ap (meter_run x.bucket s.factor) (part-is s.trace.now l.start x.periods)
 
 -- what the meter holds afterwards is in its ranges
-sound : (c : tie.After-meter-run invariant-loop decreases-loop) (m : Meter) → open_says c.meter-run.result ≡ figures m → Sound m
+sound : (c : tie.After-meter_run invariant-loop decreases-loop) (m : Meter) → open_says c.meter_run.result ≡ figures m → Sound m
 sound c m e =
     let i = entered c in
     let l = i.before.loop in
     let s = start_of i in
     let ds = s.args.trace.now in
     let x = get_or s.args.t4 l.i no_record in
-    let h : Demands ds = record { each = λ j. omega (arith, i.before.before.shared-slice-known.given j) } in
+    let h : Demands ds = record { each = λ j. omega (arith, i.before.before.shared_slice_known.given j) } in
     metered-sound x.bucket s.args.factor (take x.periods (drop l.start ds)) (demands-take x.periods _ (demands-drop l.start ds h))
     (omega (arith, s.pre.0.periods.few, length-take x.periods (drop l.start ds), length-drop l.start ds)) m (sym (ran c) ∙ e)
 
 loop-holds : tie.Need-loop-init invariant-loop decreases-loop
 loop-holds c = none_metered _ _ _ _ c.before.requires.1
 
-array-copy-out-x : tie.Need-array-copy-out-x invariant-loop decreases-loop
-array-copy-out-x c = let l = (start_of c).requires.0 in omega (arith, c.loop-test.true, l.few, l.periods.few)
+array_copy_out-x : tie.Need-array_copy_out-x invariant-loop decreases-loop
+array_copy_out-x c = let l = (start_of c).requires.0 in omega (arith, c.loop-test.true, l.few, l.periods.few)
 
-cast-end : tie.Need-overflow-cast-end invariant-loop decreases-loop
+cast-end : tie.Need-overflow_cast-end invariant-loop decreases-loop
 cast-end c = let i = c.before.before in omega (arith, inside i, (start_of i).requires.0.periods.few)
 
-add-end : tie.Need-overflow-add-end invariant-loop decreases-loop
+add-end : tie.Need-overflow_add-end invariant-loop decreases-loop
 add-end c = let i = c.before.before in omega (arith, inside i, (start_of i).requires.0.periods.few)
 
-mul-meter-run : tie.Need-overflow-mul-meter-run invariant-loop decreases-loop
-mul-meter-run c = let i = c.before.before in omega (arith, inside i, (start_of i).requires.0.periods.few)
+mul-meter_run : tie.Need-overflow_mul-meter_run invariant-loop decreases-loop
+mul-meter_run c = let i = c.before.before in omega (arith, inside i, (start_of i).requires.0.periods.few)
 
-part-meter-run-end : tie.Need-slice-bounds-meter-run-end invariant-loop decreases-loop
-part-meter-run-end c = inside c.before.before
+part-meter_run-end : tie.Need-slice_bounds-meter_run-end invariant-loop decreases-loop
+part-meter_run-end c = inside c.before.before
 
 returns : tie.Need-returns invariant-loop decreases-loop
 returns c =
@@ -103,7 +103,7 @@ with-requires c κs =
       sound r _ (ap open_says c.before.m.given.1),
     )
 
-add-i : tie.Need-overflow-add-i invariant-loop decreases-loop
+add-i : tie.Need-overflow_add-i invariant-loop decreases-loop
 add-i c =
     let i = entered c.before.before.before.before in
     let l = (start_of i).pre.0 in
@@ -119,21 +119,21 @@ loop-again c =
 returns-2 : tie.Need-returns-2 invariant-loop decreases-loop
 returns-2 c = all_metered _ _ _ _ c.before.loop.invariant c.loop-test.false
 
-pub meter-runs-spec : {M : Type 1} → statement M
-meter-runs-spec =
+pub meter_runs_spec : {M : Type 1} → statement M
+meter_runs_spec =
     tie.close
     (tie.spec
     invariant-loop
     decreases-loop
     loop-holds
     (λ c. search rules)
-    array-copy-out-x
+    array_copy_out-x
     cast-end
     add-end
-    mul-meter-run
+    mul-meter_run
     (λ c. search rules)
     (λ c. search rules)
-    part-meter-run-end
+    part-meter_run-end
     (λ c κs. search rules)
     (λ c. search rules)
     (λ c. search rules)

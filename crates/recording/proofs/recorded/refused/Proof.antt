@@ -5,7 +5,7 @@ use Rattle.recording.proofs.recorded.refused.Statement.{statement}
 use Rattle.recording.proofs.recorded.refused.Tie as tie
 
 returns : tie.Need-returns
-returns c = (refl, c.blank-records.ensures)
+returns c = (refl, c.blank_records.ensures)
 
-pub refused-spec : {M : Type 1} → statement M
-refused-spec = tie.close (tie.spec (λ c κs. search rules) returns)
+pub refused_spec : {M : Type 1} → statement M
+refused_spec = tie.close (tie.spec (λ c κs. search rules) returns)

@@ -14,5 +14,5 @@ returns c = let a = c.before.before.before.args in sym (ap (λ (t : TotalsAnswer
 returns-2 : tie.Need-returns-2
 returns-2 c = let a = c.before.before.before.args in sym (ap (λ (t : TotalsAnswer). on_figures (with_meters a.plan a.length) (totals_says t)) c.before.answer2.given.1)
 
-pub with-meters-spec : {M : Type 1} → statement M
-with-meters-spec = tie.close (tie.spec (λ c. search rules) (λ c. search rules) returns returns-2)
+pub with_meters_spec : {M : Type 1} → statement M
+with_meters_spec = tie.close (tie.spec (λ c. search rules) (λ c. search rules) returns returns-2)

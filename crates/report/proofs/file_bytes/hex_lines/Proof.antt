@@ -10,8 +10,8 @@ invariant-loop bytes i₀ i-end i = i ≤ i-end
 abbrev decreases-loop : tie.decreases-loop
 decreases-loop bytes i₀ i-end i = i-end - i
 
-pub hex-lines-spec : {M : Type 1} → statement M
-hex-lines-spec =
+pub hex_lines_spec : {M : Type 1} → statement M
+hex_lines_spec =
     tie.close
     (tie.spec
     invariant-loop

@@ -10,8 +10,8 @@ invariant-loop buckets list i₀ t5 i = i ≤ 516
 abbrev decreases-loop : tie.decreases-loop
 decreases-loop buckets list i₀ t5 i = 516 - i
 
-pub print-buckets-spec : {M : Type 1} → statement M
-print-buckets-spec =
+pub print_buckets_spec : {M : Type 1} → statement M
+print_buckets_spec =
     tie.close
     (tie.spec
     invariant-loop

@@ -10,8 +10,8 @@ invariant-loop list start i₀ i = start ≤ i
 abbrev decreases-loop : tie.decreases-loop
 decreases-loop list start i₀ i = 516 - i
 
-pub are-lent-spec : {M : Type 1} → statement M
-are-lent-spec =
+pub are_lent_spec : {M : Type 1} → statement M
+are_lent_spec =
     tie.close
     (tie.spec
     invariant-loop

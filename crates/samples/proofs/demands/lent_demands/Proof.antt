@@ -6,11 +6,11 @@ use borrow.Author.Rules.{rules}
 use Rattle.samples.proofs.demands.lent_demands.Statement.{statement}
 use Rattle.samples.proofs.demands.lent_demands.Tie as tie
 
-slice-aggregate-result : tie.Need-slice-aggregate-result
-slice-aggregate-result c = sym (length-take-le _ _ (omega arith))
+slice_aggregate-result : tie.Need-slice_aggregate-result
+slice_aggregate-result c = sym (length-take-le _ _ (omega arith))
 
-pub lent-demands-spec : {M : Type 1} → statement M
-lent-demands-spec = tie.close (tie.spec
-    slice-aggregate-result
+pub lent_demands_spec : {M : Type 1} → statement M
+lent_demands_spec = tie.close (tie.spec
+    slice_aggregate-result
     (λ c. search rules)
     (λ c. search rules))

@@ -10,8 +10,8 @@ invariant-loop bytes length sum₀ i₀ i-end sum i = i ≤ i-end
 abbrev decreases-loop : tie.decreases-loop
 decreases-loop bytes length sum₀ i₀ i-end sum i = i-end - i
 
-pub checksum-spec : {M : Type 1} → statement M
-checksum-spec =
+pub checksum_spec : {M : Type 1} → statement M
+checksum_spec =
     tie.close
     (tie.spec
     invariant-loop

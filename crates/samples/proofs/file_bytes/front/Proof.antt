@@ -6,11 +6,11 @@ use borrow.Author.Rules.{rules}
 use Rattle.samples.proofs.file_bytes.front.Statement.{statement}
 use Rattle.samples.proofs.file_bytes.front.Tie as tie
 
-slice-aggregate-result : tie.Need-slice-aggregate-result
-slice-aggregate-result c = sym (length-take-le _ _ (omega arith))
+slice_aggregate-result : tie.Need-slice_aggregate-result
+slice_aggregate-result c = sym (length-take-le _ _ (omega arith))
 
-pub front-spec : {M : Type 1} → statement M
-front-spec = tie.close (tie.spec
-    slice-aggregate-result
+pub front_spec : {M : Type 1} → statement M
+front_spec = tie.close (tie.spec
+    slice_aggregate-result
     (λ c. search rules)
     (λ c. search rules))

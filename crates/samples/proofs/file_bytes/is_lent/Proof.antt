@@ -11,8 +11,8 @@ invariant-loop bytes start i₀ i = start ≤ i
 abbrev decreases-loop : tie.decreases-loop
 decreases-loop bytes start i₀ i = longest_plan + 8 - i
 
-pub is-lent-spec : {M : Type 1} → statement M
-is-lent-spec =
+pub is_lent_spec : {M : Type 1} → statement M
+is_lent_spec =
     tie.close
     (tie.spec
     invariant-loop

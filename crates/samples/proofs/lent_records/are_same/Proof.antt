@@ -10,8 +10,8 @@ invariant-loop start a b i₀ i = start ≤ i
 abbrev decreases-loop : tie.decreases-loop
 decreases-loop start a b i₀ i = 516 - i
 
-pub are-same-spec : {M : Type 1} → statement M
-are-same-spec =
+pub are_same_spec : {M : Type 1} → statement M
+are_same_spec =
     tie.close
     (tie.spec
     invariant-loop

@@ -10,8 +10,8 @@ invariant-loop trace small rate best₀ depth₀ depth-end best depth = depth �
 abbrev decreases-loop : tie.decreases-loop
 decreases-loop trace small rate best₀ depth₀ depth-end best depth = depth-end - depth
 
-pub at-rate-spec : {M : Type 1} → statement M
-at-rate-spec =
+pub at_rate_spec : {M : Type 1} → statement M
+at_rate_spec =
     tie.close
     (tie.spec
     invariant-loop

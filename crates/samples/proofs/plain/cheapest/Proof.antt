@@ -10,8 +10,8 @@ invariant-loop trace small best₀ rate₀ rate-end best rate = rate ≤ rate-en
 abbrev decreases-loop : tie.decreases-loop
 decreases-loop trace small best₀ rate₀ rate-end best rate = rate-end - rate
 
-pub cheapest-spec : {M : Type 1} → statement M
-cheapest-spec =
+pub cheapest_spec : {M : Type 1} → statement M
+cheapest_spec =
     tie.close
     (tie.spec
     invariant-loop

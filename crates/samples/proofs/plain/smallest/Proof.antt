@@ -10,8 +10,8 @@ invariant-loop trace small rate depth₀ depth-end depth = depth ≤ depth-end
 abbrev decreases-loop : tie.decreases-loop
 decreases-loop trace small rate depth₀ depth-end depth = depth-end - depth
 
-pub smallest-spec : {M : Type 1} → statement M
-smallest-spec =
+pub smallest_spec : {M : Type 1} → statement M
+smallest_spec =
     tie.close
     (tie.spec
     invariant-loop

@@ -44,21 +44,21 @@ module _ (t : Tariff) (room : ℕ) (ds : List ℕ) where
 returns : tie.Need-returns
 returns c =
     let s = c.before.before.before.before.args in
-    refusal _ _ _ _ c.refused.ensures (no-periods s.tariff s.room s.trace.now (check_failed c.before.before.periods-in-range.ensures c.before.if1.true))
+    refusal _ _ _ _ c.refused.ensures (no-periods s.tariff s.room s.trace.now (check_failed c.before.before.periods_in_range.ensures c.before.if1.true))
 
 -- past the first test
 periods : (c : tie.Else1) → periods_ok (length c.before.before.before.args.trace.now) ≡ true
-periods c = check_passed c.before.periods-in-range.ensures c.if1.false
+periods c = check_passed c.before.periods_in_range.ensures c.if1.false
 
 returns-2 : tie.Need-returns-2
 returns-2 c =
     let s = c.before.before.before.before.before.before.args in
     refusal _ _ _ _ c.refused2.ensures
-    (no-tariff s.tariff s.room s.trace.now (periods c.before.before.before) (check_failed c.before.before.tariff-in-range.ensures c.before.if2.true))
+    (no-tariff s.tariff s.room s.trace.now (periods c.before.before.before) (check_failed c.before.before.tariff_in_range.ensures c.before.if2.true))
 
 -- past the second
 figures : (c : tie.Else2) → tariff_ok c.before.before.before.before.before.args.tariff ≡ true
-figures c = check_passed c.before.tariff-in-range.ensures c.if2.false
+figures c = check_passed c.before.tariff_in_range.ensures c.if2.false
 
 returns-3 : tie.Need-returns-3
 returns-3 c =
@@ -77,8 +77,8 @@ returns-4 c =
     (past-tests s.tariff s.room s.trace.now (periods d.before.before.before) (figures d.before) (le-leb _ _ d.if3.false))
     c.cheapest.ensures
 
-pub plan-series-spec : {M : Type 1} → statement M
-plan-series-spec =
+pub plan_series_spec : {M : Type 1} → statement M
+plan_series_spec =
     tie.close
     (tie.spec
     (λ c κs. search rules)

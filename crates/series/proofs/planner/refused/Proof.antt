@@ -4,7 +4,7 @@ use Rattle.series.proofs.planner.refused.Statement.{statement}
 use Rattle.series.proofs.planner.refused.Tie as tie
 
 returns : tie.Need-returns
-returns c = rw c.blank-records.ensures
+returns c = rw c.blank_records.ensures
 
-pub refused-spec : {M : Type 1} → statement M
-refused-spec = tie.close (tie.spec (λ c κs. search rules) returns)
+pub refused_spec : {M : Type 1} → statement M
+refused_spec = tie.close (tie.spec (λ c κs. search rules) returns)

@@ -11,10 +11,10 @@ use Rattle.series.proofs.records.bucket_of.Tie as tie
 single-requires : tie.Need-single-requires
 single-requires c κs = search rules
 
-enum-known-x : tie.Need-enum-known-x
-enum-known-x c = search rules
+enum_known-x : tie.Need-enum_known-x
+enum_known-x c = search rules
 
-enum_told : tie.Need-enum-told
+enum_told : tie.Need-enum_told
 enum_told c = search rules
 
 returns : tie.Need-returns
@@ -31,5 +31,5 @@ returns-2 c =
     (figures-refused
     (sym s.requires.1.1.1 ∙ record_single _ _ s.requires.1.0 s.requires.0 ∙ ap (record_for _) (sym d.single.ensures ∙ ap single_says c.enum_told.given.1)))
 
-pub bucket-of-spec : {M : Type 1} → statement M
-bucket-of-spec = tie.close (tie.spec single-requires enum-known-x enum_told returns returns-2)
+pub bucket_of_spec : {M : Type 1} → statement M
+bucket_of_spec = tie.close (tie.spec single-requires enum_known-x enum_told returns returns-2)

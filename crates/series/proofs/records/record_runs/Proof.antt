@@ -122,7 +122,7 @@ abbrev decreases-loop : tie.decreases-loop
 decreases-loop trace tariff firsts records₀ start₀ k₀ records start k = length trace - start
 
 loop-holds : tie.Need-loop-init invariant-loop decreases-loop
-loop-holds c = begin _ _ _ _ c.blank-records.ensures c.before.before.before.requires.1.1
+loop-holds c = begin _ _ _ _ c.blank_records.ensures c.before.before.before.requires.1.1
 
 abbrev start_of : tie.In-loop invariant-loop decreases-loop → tie.Start invariant-loop decreases-loop
 start_of c = c.before.before.before.before.before
@@ -131,24 +131,24 @@ start_of c = c.before.before.before.before.before
 run_ends : (c : tie.In-loop invariant-loop decreases-loop) → c.before.loop.start + get_or (start_of c).args.firsts.now c.before.loop.start 0 ≤ length (start_of c).args.trace.now
 run_ends c = ends _ _ _ _ _ c.before.loop.invariant _ (start_of c).requires.1.1 c.loop-test.true
 
-cast-end : tie.Need-overflow-cast-end invariant-loop decreases-loop
+cast-end : tie.Need-overflow_cast-end invariant-loop decreases-loop
 cast-end c = omega (arith, run_ends c.before, (start_of c.before).pre.0.few)
 
-add-end : tie.Need-overflow-add-end invariant-loop decreases-loop
+add-end : tie.Need-overflow_add-end invariant-loop decreases-loop
 add-end c = omega (arith, run_ends c.before, (start_of c.before).pre.0.few)
 
-part-bucket-of-end : tie.Need-slice-bounds-bucket-of-end invariant-loop decreases-loop
-part-bucket-of-end c = run_ends c.before
+part-bucket_of-end : tie.Need-slice_bounds-bucket_of-end invariant-loop decreases-loop
+part-bucket_of-end c = run_ends c.before
 
-bucket-of-requires : tie.Need-bucket-of-requires invariant-loop decreases-loop
-bucket-of-requires c κs =
+bucket_of-requires : tie.Need-bucket_of-requires invariant-loop decreases-loop
+bucket_of-requires c κs =
     let i = c.before.before in
     let s = start_of i in
     let f = s.pre.1.1 in
     (part_range _ _ _ _ _ i.before.loop.invariant _ f i.loop-test.true s.pre.0, (s.pre.1.0, (_, part-record _ _ _ _ _ i.before.loop.invariant _ f i.loop-test.true)))
 
-array-set-from-records : tie.Need-array-set-from-records invariant-loop decreases-loop
-array-set-from-records c =
+array_set_from-records : tie.Need-array_set_from-records invariant-loop decreases-loop
+array_set_from-records c =
     let i = c.before.before.before in
     k-room _ _ _ _ _ i.before.loop.invariant _ (start_of i).requires.1.1 i.loop-test.true (start_of i).requires.0
 
@@ -160,13 +160,13 @@ loop-less c =
 loop-again : tie.Need-loop-preserved invariant-loop decreases-loop
 loop-again c =
     let i = c.before.before.before in
-    step _ _ _ _ _ i.before.loop.invariant _ (start_of i).requires.1.1 i.loop-test.true _ c.bucket-of.ensures (start_of i).requires.0
+    step _ _ _ _ _ i.before.loop.invariant _ (start_of i).requires.1.1 i.loop-test.true _ c.bucket_of.ensures (start_of i).requires.0
 
 returns : tie.Need-returns invariant-loop decreases-loop
 returns c = end _ _ _ _ _ c.before.loop.invariant c.loop-test.false
 
-pub record-runs-spec : {M : Type 1} → statement M
-record-runs-spec =
+pub record_runs_spec : {M : Type 1} → statement M
+record_runs_spec =
     tie.close
     (tie.spec
     invariant-loop
@@ -180,10 +180,10 @@ record-runs-spec =
     (λ c. search rules)
     (λ c. search rules)
     (λ c. search rules)
-    part-bucket-of-end
-    bucket-of-requires
+    part-bucket_of-end
+    bucket_of-requires
     (λ c. search rules)
-    array-set-from-records
+    array_set_from-records
     (λ c. search rules)
     loop-less
     loop-again

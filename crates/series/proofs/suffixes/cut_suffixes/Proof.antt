@@ -68,78 +68,78 @@ invariant-loop trace tariff costs₀ counts₀ firsts₀ end next₀ far begin�
 abbrev decreases-loop : tie.decreases-loop
 decreases-loop trace tariff costs₀ counts₀ firsts₀ end next₀ far begin₀ costs counts firsts next begin = next
 
-add-end : tie.Need-overflow-add-end invariant-loop decreases-loop
+add-end : tie.Need-overflow_add-end invariant-loop decreases-loop
 add-end c = search rules
 
 loop-holds : tie.Need-loop-init invariant-loop decreases-loop
 loop-holds c = search rules
 
-sub-start : tie.Need-overflow-sub-start invariant-loop decreases-loop
+sub-start : tie.Need-overflow_sub-start invariant-loop decreases-loop
 sub-start c = search rules
 
-mul-best-first : tie.Need-overflow-mul-best-first invariant-loop decreases-loop
-mul-best-first c = search rules
+mul-best_first : tie.Need-overflow_mul-best_first invariant-loop decreases-loop
+mul-best_first c = search rules
 
-sub-best-first : tie.Need-overflow-sub-best-first invariant-loop decreases-loop
-sub-best-first c = search rules
+sub-best_first : tie.Need-overflow_sub-best_first invariant-loop decreases-loop
+sub-best_first c = search rules
 
-part-best-first-start : tie.Need-slice-bounds-best-first-start invariant-loop decreases-loop
-part-best-first-start c = search rules
+part-best_first-start : tie.Need-slice_bounds-best_first-start invariant-loop decreases-loop
+part-best_first-start c = search rules
 
-part-best-first-end : tie.Need-slice-bounds-best-first-end invariant-loop decreases-loop
-part-best-first-end c = search rules
+part-best_first-end : tie.Need-slice_bounds-best_first-end invariant-loop decreases-loop
+part-best_first-end c = search rules
 
-slice-aggregate-best-first : tie.Need-slice-aggregate-best-first invariant-loop decreases-loop
-slice-aggregate-best-first c = search rules
+slice_aggregate-best_first : tie.Need-slice_aggregate-best_first invariant-loop decreases-loop
+slice_aggregate-best_first c = search rules
 
-mul-best-first-2 : tie.Need-overflow-mul-best-first-2 invariant-loop decreases-loop
-mul-best-first-2 c = search rules
+mul-best_first-2 : tie.Need-overflow_mul-best_first-2 invariant-loop decreases-loop
+mul-best_first-2 c = search rules
 
-sub-best-first-2 : tie.Need-overflow-sub-best-first-2 invariant-loop decreases-loop
-sub-best-first-2 c = search rules
+sub-best_first-2 : tie.Need-overflow_sub-best_first-2 invariant-loop decreases-loop
+sub-best_first-2 c = search rules
 
-part-best-first-start-2 : tie.Need-slice-bounds-best-first-start-2 invariant-loop decreases-loop
-part-best-first-start-2 c = search rules
+part-best_first-start-2 : tie.Need-slice_bounds-best_first-start-2 invariant-loop decreases-loop
+part-best_first-start-2 c = search rules
 
-part-best-first-end-2 : tie.Need-slice-bounds-best-first-end-2 invariant-loop decreases-loop
-part-best-first-end-2 c = search rules
+part-best_first-end-2 : tie.Need-slice_bounds-best_first-end-2 invariant-loop decreases-loop
+part-best_first-end-2 c = search rules
 
-mul-best-first-3 : tie.Need-overflow-mul-best-first-3 invariant-loop decreases-loop
-mul-best-first-3 c = search rules
+mul-best_first-3 : tie.Need-overflow_mul-best_first-3 invariant-loop decreases-loop
+mul-best_first-3 c = search rules
 
-sub-best-first-3 : tie.Need-overflow-sub-best-first-3 invariant-loop decreases-loop
-sub-best-first-3 c = search rules
+sub-best_first-3 : tie.Need-overflow_sub-best_first-3 invariant-loop decreases-loop
+sub-best_first-3 c = search rules
 
-part-best-first-start-3 : tie.Need-slice-bounds-best-first-start-3 invariant-loop decreases-loop
-part-best-first-start-3 c = search rules
+part-best_first-start-3 : tie.Need-slice_bounds-best_first-start-3 invariant-loop decreases-loop
+part-best_first-start-3 c = search rules
 
-part-best-first-end-3 : tie.Need-slice-bounds-best-first-end-3 invariant-loop decreases-loop
-part-best-first-end-3 c = search rules
+part-best_first-end-3 : tie.Need-slice_bounds-best_first-end-3 invariant-loop decreases-loop
+part-best_first-end-3 c = search rules
 
-best-first-requires : tie.Need-best-first-requires invariant-loop decreases-loop
-best-first-requires c κs =
+best_first-requires : tie.Need-best_first-requires invariant-loop decreases-loop
+best_first-requires c κs =
     let i = c.before.before.before.before.before.before in
     let s = i.before.before.before.before.before.before in
     let k = i.before.loop.invariant in
     (k.rate, (far_all, left-rests _ s.requires.1.0 _ (few-left s.args.trace.now (i.before.loop.next - 1) s.requires.0) _ _ (left _ _ _ _ _ _ _ _ _ _ k i.loop-test.true)))
 
-mul-costs : tie.Need-overflow-mul-costs invariant-loop decreases-loop
+mul-costs : tie.Need-overflow_mul-costs invariant-loop decreases-loop
 mul-costs c = search rules
 
-slice-write-costs : tie.Need-slice-write-costs invariant-loop decreases-loop
-slice-write-costs c = search rules
+slice_write-costs : tie.Need-slice_write-costs invariant-loop decreases-loop
+slice_write-costs c = search rules
 
-mul-counts : tie.Need-overflow-mul-counts invariant-loop decreases-loop
+mul-counts : tie.Need-overflow_mul-counts invariant-loop decreases-loop
 mul-counts c = search rules
 
-slice-write-counts : tie.Need-slice-write-counts invariant-loop decreases-loop
-slice-write-counts c = search rules
+slice_write-counts : tie.Need-slice_write-counts invariant-loop decreases-loop
+slice_write-counts c = search rules
 
-mul-firsts : tie.Need-overflow-mul-firsts invariant-loop decreases-loop
+mul-firsts : tie.Need-overflow_mul-firsts invariant-loop decreases-loop
 mul-firsts c = search rules
 
-slice-write-firsts : tie.Need-slice-write-firsts invariant-loop decreases-loop
-slice-write-firsts c = search rules
+slice_write-firsts : tie.Need-slice_write-firsts invariant-loop decreases-loop
+slice_write-firsts c = search rules
 
 loop-less : tie.Need-loop-smaller invariant-loop decreases-loop
 loop-less c = search rules
@@ -150,25 +150,25 @@ loop-again c =
     let i = d.before.before.before.before.before.before.before in
     let s = i.before.before.before.before.before.before in
     let k = i.before.loop.invariant in
-    let f = d.best-first.ensures in
+    let f = d.best_first.ensures in
     step _ _ _ _ _ _ _ _ _ _ k i.loop-test.true _
     (search_found _ s.requires.1.0 _ (few-left s.args.trace.now (i.before.loop.next - 1) s.requires.0) _ _ (left _ _ _ _ _ _ _ _ _ _ k i.loop-test.true) _ f)
     f.rate
 
-same_length : tie.Need-same-length invariant-loop decreases-loop
+same_length : tie.Need-same_length invariant-loop decreases-loop
 same_length c = search rules
 
-same-length-2 : tie.Need-same-length-2 invariant-loop decreases-loop
-same-length-2 c = search rules
+same_length-2 : tie.Need-same_length-2 invariant-loop decreases-loop
+same_length-2 c = search rules
 
-same-length-3 : tie.Need-same-length-3 invariant-loop decreases-loop
-same-length-3 c = search rules
+same_length-3 : tie.Need-same_length-3 invariant-loop decreases-loop
+same_length-3 c = search rules
 
 returns : tie.Need-returns invariant-loop decreases-loop
 returns c = end _ _ _ _ _ _ _ _ _ _ c.before.loop.invariant c.loop-test.false
 
-pub cut-suffixes-spec : {M : Type 1} → statement M
-cut-suffixes-spec =
+pub cut_suffixes_spec : {M : Type 1} → statement M
+cut_suffixes_spec =
     tie.close
     (tie.spec
     invariant-loop
@@ -176,29 +176,29 @@ cut-suffixes-spec =
     add-end
     loop-holds
     sub-start
-    mul-best-first
-    sub-best-first
-    part-best-first-start
-    part-best-first-end
-    slice-aggregate-best-first
-    mul-best-first-2
-    sub-best-first-2
-    part-best-first-start-2
-    part-best-first-end-2
-    mul-best-first-3
-    sub-best-first-3
-    part-best-first-start-3
-    part-best-first-end-3
-    best-first-requires
+    mul-best_first
+    sub-best_first
+    part-best_first-start
+    part-best_first-end
+    slice_aggregate-best_first
+    mul-best_first-2
+    sub-best_first-2
+    part-best_first-start-2
+    part-best_first-end-2
+    mul-best_first-3
+    sub-best_first-3
+    part-best_first-start-3
+    part-best_first-end-3
+    best_first-requires
     mul-costs
-    slice-write-costs
+    slice_write-costs
     mul-counts
-    slice-write-counts
+    slice_write-counts
     mul-firsts
-    slice-write-firsts
+    slice_write-firsts
     loop-less
     loop-again
     same_length
-    same-length-2
-    same-length-3
+    same_length-2
+    same_length-3
     returns)

@@ -15,45 +15,45 @@ use Rattle.services.proofs.explaining.explain_line.Statement.{statement}
 use Rattle.services.proofs.explaining.explain_line.Tie as tie
 
 found : (x : tie.After-x) → let s = x.before.before.before.before.before in explain_for s.args.rate.0 s.args.order.now ≡ figures (explained_says x.x.given.0.0)
-found x = sym x.before.before.explain-for.ensures ∙ ap explain_says x.x.given.1
+found x = sym x.before.before.explain_for.ensures ∙ ap explain_says x.x.given.1
 
 room : (x : tie.After-x) → length (explained_line (explained_says x.x.given.0.0)) ≤ length (zeros longest_explained)
 room x = omega (arith, explained-line-short _ _ _ (found x))
 
-explain-for-requires : tie.Need-explain-for-requires
-explain-for-requires c κs = search rules
+explain_for-requires : tie.Need-explain_for-requires
+explain_for-requires c κs = search rules
 
-enum-known-x : tie.Need-enum-known-x
-enum-known-x c = search rules
+enum_known-x : tie.Need-enum_known-x
+enum_known-x c = search rules
 
-enum-known-why : tie.Need-enum-known-why
-enum-known-why c = search rules
+enum_known-why : tie.Need-enum_known-why
+enum_known-why c = search rules
 
 returns : tie.Need-returns
 returns c =
     let t = c.before.before.before in
-    refused_fills _ _ _ _ (sym t.explain-for.ensures ∙ ap explain_says c.before.why.given.1)
+    refused_fills _ _ _ _ (sym t.explain_for.ensures ∙ ap explain_says c.before.why.given.1)
 
-slice-aggregate-put-explained : tie.Need-slice-aggregate-put-explained
-slice-aggregate-put-explained c = search rules
+slice_aggregate-put_explained : tie.Need-slice_aggregate-put_explained
+slice_aggregate-put_explained c = search rules
 
-put-explained-requires : tie.Need-put-explained-requires
-put-explained-requires c κs = omega (arith, room c.before.before)
+put_explained-requires : tie.Need-put_explained-requires
+put_explained-requires c κs = omega (arith, room c.before.before)
 
-array-share-prefix-ready : tie.Need-array-share-prefix-ready
-array-share-prefix-ready c =
+array_share_prefix-ready : tie.Need-array_share_prefix-ready
+array_share_prefix-ready c =
     let p = c.before in
-    ready_inside (zeros longest_explained) _ (room p.before.before.before) _ _ p.put-explained.ensures
+    ready_inside (zeros longest_explained) _ (room p.before.before.before) _ _ p.put_explained.ensures
 
-slice-aggregate-fill : tie.Need-slice-aggregate-fill
-slice-aggregate-fill c =
+slice_aggregate-fill : tie.Need-slice_aggregate-fill
+slice_aggregate-fill c =
     let p = c.before.before in
-    ready_count (zeros longest_explained) _ (room p.before.before.before) _ _ p.put-explained.ensures
+    ready_count (zeros longest_explained) _ (room p.before.before.before) _ _ p.put_explained.ensures
 
 fill-requires : tie.Need-fill-requires
 fill-requires c κs = search rules
 
-same_length : tie.Need-same-length
+same_length : tie.Need-same_length
 same_length c = search rules
 
 returns-2 : tie.Need-returns-2
@@ -62,20 +62,20 @@ returns-2 c =
     let x = p.before.before.before in
     let old = x.before.before.before.before.before.args.text.now in
     found_fills _ _ old _ (found x) _ _
-    (ready_fills (zeros longest_explained) _ (room x) _ _ p.put-explained.ensures old _ _ c.before.before.fill.ensures)
+    (ready_fills (zeros longest_explained) _ (room x) _ _ p.put_explained.ensures old _ _ c.before.before.fill.ensures)
 
-pub explain-line-spec : {M : Type 1} → statement M
-explain-line-spec =
+pub explain_line_spec : {M : Type 1} → statement M
+explain_line_spec =
     tie.close
     (tie.spec
-    explain-for-requires
-    enum-known-x
-    enum-known-why
+    explain_for-requires
+    enum_known-x
+    enum_known-why
     returns
-    slice-aggregate-put-explained
-    put-explained-requires
-    array-share-prefix-ready
-    slice-aggregate-fill
+    slice_aggregate-put_explained
+    put_explained-requires
+    array_share_prefix-ready
+    slice_aggregate-fill
     fill-requires
     same_length
     returns-2)

@@ -18,64 +18,64 @@ module _ {x y : Cause} (e : x ≡ y) where
   put_of : (old : List ℕ) (at : ℕ) (new : List ℕ) (end : ℕ) → Puts old at (cause_fields (cause_says y)) new end → Puts old at (cause_fields (cause_says x)) new end
   put_of old at new end = subst (λ (c : Cause). Puts old at (cause_fields (cause_says c)) new end) (sym e)
 
-enum_told : tie.Need-enum-told
+enum_told : tie.Need-enum_told
 enum_told c = search rules
 
-put-nothing-requires : tie.Need-put-nothing-requires
-put-nothing-requires c κs =
+put_nothing-requires : tie.Need-put_nothing-requires
+put_nothing-requires c κs =
     let x = c.before in
     let s = x.before.before.before in
     room_of x.enum_told.given.1 s.args.text.now s.args.at s.requires
 
-enum-known-cause : tie.Need-enum-known-cause
-enum-known-cause c = search rules
+enum_known-cause : tie.Need-enum_known-cause
+enum_known-cause c = search rules
 
-put-opening-requires : tie.Need-put-opening-requires
-put-opening-requires c κs =
+put_opening-requires : tie.Need-put_opening-requires
+put_opening-requires c κs =
     let x = c.before.before in
     let s = x.before.before.before in
     room_of x.cause.given.1 s.args.text.now s.args.at s.requires
 
-enum-known-cause-2 : tie.Need-enum-known-cause-2
-enum-known-cause-2 c = search rules
+enum_known-cause-2 : tie.Need-enum_known-cause-2
+enum_known-cause-2 c = search rules
 
-put-stretch-requires : tie.Need-put-stretch-requires
-put-stretch-requires c κs =
+put_stretch-requires : tie.Need-put_stretch-requires
+put_stretch-requires c κs =
     let x = c.before.before in
     let s = x.before.before.before in
     room_of x.cause2.given.1 s.args.text.now s.args.at s.requires
 
-same_length : tie.Need-same-length
+same_length : tie.Need-same_length
 same_length c = search rules
 
 returns : tie.Need-returns
-returns c = let p = c.before.before in put_of p.before.before.enum_told.given.1 _ _ _ _ p.put-nothing.ensures
+returns c = let p = c.before.before in put_of p.before.before.enum_told.given.1 _ _ _ _ p.put_nothing.ensures
 
-same-length-2 : tie.Need-same-length-2
-same-length-2 c = search rules
+same_length-2 : tie.Need-same_length-2
+same_length-2 c = search rules
 
 returns-2 : tie.Need-returns-2
-returns-2 c = let p = c.before.before in put_of p.before.before.before.cause.given.1 _ _ _ _ p.put-opening.ensures
+returns-2 c = let p = c.before.before in put_of p.before.before.before.cause.given.1 _ _ _ _ p.put_opening.ensures
 
-same-length-3 : tie.Need-same-length-3
-same-length-3 c = search rules
+same_length-3 : tie.Need-same_length-3
+same_length-3 c = search rules
 
 returns-3 : tie.Need-returns-3
-returns-3 c = let p = c.before.before in put_of p.before.before.before.cause2.given.1 _ _ _ _ p.put-stretch.ensures
+returns-3 c = let p = c.before.before in put_of p.before.before.before.cause2.given.1 _ _ _ _ p.put_stretch.ensures
 
-pub put-cause-spec : {M : Type 1} → statement M
-put-cause-spec =
+pub put_cause_spec : {M : Type 1} → statement M
+put_cause_spec =
     tie.close
     (tie.spec
     enum_told
-    put-nothing-requires
-    enum-known-cause
-    put-opening-requires
-    enum-known-cause-2
-    put-stretch-requires
+    put_nothing-requires
+    enum_known-cause
+    put_opening-requires
+    enum_known-cause-2
+    put_stretch-requires
     same_length
     returns
-    same-length-2
+    same_length-2
     returns-2
-    same-length-3
+    same_length-3
     returns-3)

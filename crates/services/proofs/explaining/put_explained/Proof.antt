@@ -15,18 +15,18 @@ field₁ s = depth_fields s.args.explained.depth.0 space
 abbrev field₂ : tie.Start → List ℕ
 field₂ s = cause_fields (cause_says s.args.explained.cause)
 
-put-depth-requires : tie.Need-put-depth-requires
-put-depth-requires c κs =
+put_depth-requires : tie.Need-put_depth-requires
+put_depth-requires c κs =
     let s = c.before.before in
     first_of_two s.args.text.now s.args.at (field₁ s) (field₂ s) s.requires
 
-put-cause-requires : tie.Need-put-cause-requires
-put-cause-requires c κs =
+put_cause-requires : tie.Need-put_cause-requires
+put_cause-requires c κs =
     let c1 = c.before.before.before in
     let s = c1.before.before.before in
-    second_of_two s.args.text.now s.args.at (field₁ s) (field₂ s) s.requires c1.put-depth.ensures
+    second_of_two s.args.text.now s.args.at (field₁ s) (field₂ s) s.requires c1.put_depth.ensures
 
-same_length : tie.Need-same-length
+same_length : tie.Need-same_length
 same_length c = search rules
 
 returns : tie.Need-returns
@@ -34,7 +34,7 @@ returns c =
     let c2 = c.before.before in
     let c1 = c2.before.before.before.before in
     let s = c1.before.before.before in
-    two s.args.text.now s.args.at (field₁ s) (field₂ s) c1.put-depth.ensures c2.put-cause.ensures
+    two s.args.text.now s.args.at (field₁ s) (field₂ s) c1.put_depth.ensures c2.put_cause.ensures
 
-pub put-explained-spec : {M : Type 1} → statement M
-put-explained-spec = tie.close (tie.spec put-depth-requires put-cause-requires same_length returns)
+pub put_explained_spec : {M : Type 1} → statement M
+put_explained_spec = tie.close (tie.spec put_depth-requires put_cause-requires same_length returns)

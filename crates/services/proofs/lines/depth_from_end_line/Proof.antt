@@ -3,17 +3,17 @@ use borrow.Author.Rules.{rules}
 use Rattle.services.proofs.lines.depth_from_end_line.Statement.{statement}
 use Rattle.services.proofs.lines.depth_from_end_line.Tie as tie
 
-depth-from-end-for-requires : tie.Need-depth-from-end-for-requires
-depth-from-end-for-requires c κs = search rules
+depth_from_end_for-requires : tie.Need-depth_from_end_for-requires
+depth_from_end_for-requires c κs = search rules
 
-fill-depth-requires : tie.Need-fill-depth-requires
-fill-depth-requires c κs = search rules
+fill_depth-requires : tie.Need-fill_depth-requires
+fill_depth-requires c κs = search rules
 
-same_length : tie.Need-same-length
+same_length : tie.Need-same_length
 same_length c = search rules
 
 returns : tie.Need-returns
-returns c = let f = c.before.before in rw f.before.before.depth-from-end-for.ensures at f.fill-depth.ensures
+returns c = let f = c.before.before in rw f.before.before.depth_from_end_for.ensures at f.fill_depth.ensures
 
-pub depth-from-end-line-spec : {M : Type 1} → statement M
-depth-from-end-line-spec = tie.close (tie.spec depth-from-end-for-requires fill-depth-requires same_length returns)
+pub depth_from_end_line_spec : {M : Type 1} → statement M
+depth_from_end_line_spec = tie.close (tie.spec depth_from_end_for-requires fill_depth-requires same_length returns)

@@ -12,38 +12,38 @@ use borrow.Author.Rules.{rules}
 use Rattle.services.proofs.lines.fill_depth.Statement.{statement}
 use Rattle.services.proofs.lines.fill_depth.Tie as tie
 
-room : (y : tie.After-known-told) → length (depth_line y.before.answer.given.0.0.0) ≤ length (zeros longest_depth)
-room y = omega (arith, depth-short y.before.answer.given.0.0.0 (omega (arith, y.known-told.given)))
+room : (y : tie.After-known_told) → length (depth_line y.before.answer.given.0.0.0) ≤ length (zeros longest_depth)
+room y = omega (arith, depth-short y.before.answer.given.0.0.0 (omega (arith, y.known_told.given)))
 
-enum-known-answer : tie.Need-enum-known-answer
-enum-known-answer c = search rules
+enum_known-answer : tie.Need-enum_known-answer
+enum_known-answer c = search rules
 
-enum-known-answer-2 : tie.Need-enum-known-answer-2
-enum-known-answer-2 c = search rules
+enum_known-answer-2 : tie.Need-enum_known-answer-2
+enum_known-answer-2 c = search rules
 
 returns : tie.Need-returns
 returns c = refused_fills _ _ _ _ (ap depth_says c.before.answer2.given.1)
 
-slice-aggregate-put-depth : tie.Need-slice-aggregate-put-depth
-slice-aggregate-put-depth c = search rules
+slice_aggregate-put_depth : tie.Need-slice_aggregate-put_depth
+slice_aggregate-put_depth c = search rules
 
-put-depth-requires : tie.Need-put-depth-requires
-put-depth-requires c κs = omega (arith, room c.before)
+put_depth-requires : tie.Need-put_depth-requires
+put_depth-requires c κs = omega (arith, room c.before)
 
-array-share-prefix-ready : tie.Need-array-share-prefix-ready
-array-share-prefix-ready c =
+array_share_prefix-ready : tie.Need-array_share_prefix-ready
+array_share_prefix-ready c =
     let p = c.before in
-    ready_inside (zeros longest_depth) _ (room p.before.before) _ _ p.put-depth.ensures
+    ready_inside (zeros longest_depth) _ (room p.before.before) _ _ p.put_depth.ensures
 
-slice-aggregate-fill : tie.Need-slice-aggregate-fill
-slice-aggregate-fill c =
+slice_aggregate-fill : tie.Need-slice_aggregate-fill
+slice_aggregate-fill c =
     let p = c.before.before in
-    ready_count (zeros longest_depth) _ (room p.before.before) _ _ p.put-depth.ensures
+    ready_count (zeros longest_depth) _ (room p.before.before) _ _ p.put_depth.ensures
 
 fill-requires : tie.Need-fill-requires
 fill-requires c κs = search rules
 
-same_length : tie.Need-same-length
+same_length : tie.Need-same_length
 same_length c = search rules
 
 returns-2 : tie.Need-returns-2
@@ -52,19 +52,19 @@ returns-2 c =
     let y = p.before.before in
     let old = y.before.before.before.before.args.text.now in
     found_fills _ _ old _ (ap depth_says y.before.answer.given.1) _ _
-    (ready_fills (zeros longest_depth) _ (room y) _ _ p.put-depth.ensures old _ _ c.before.before.fill.ensures)
+    (ready_fills (zeros longest_depth) _ (room y) _ _ p.put_depth.ensures old _ _ c.before.before.fill.ensures)
 
-pub fill-depth-spec : {M : Type 1} → statement M
-fill-depth-spec =
+pub fill_depth_spec : {M : Type 1} → statement M
+fill_depth_spec =
     tie.close
     (tie.spec
-    enum-known-answer
-    enum-known-answer-2
+    enum_known-answer
+    enum_known-answer-2
     returns
-    slice-aggregate-put-depth
-    put-depth-requires
-    array-share-prefix-ready
-    slice-aggregate-fill
+    slice_aggregate-put_depth
+    put_depth-requires
+    array_share_prefix-ready
+    slice_aggregate-fill
     fill-requires
     same_length
     returns-2)

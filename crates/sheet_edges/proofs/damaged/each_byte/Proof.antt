@@ -10,8 +10,8 @@ invariant-loop file at₀ at = at ≤ 54
 abbrev decreases-loop : tie.decreases-loop
 decreases-loop file at₀ at = 54 - at
 
-pub each-byte-spec : {M : Type 1} → statement M
-each-byte-spec =
+pub each_byte_spec : {M : Type 1} → statement M
+each_byte_spec =
     tie.close
     (tie.spec
     invariant-loop

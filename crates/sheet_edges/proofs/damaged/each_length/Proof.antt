@@ -10,8 +10,8 @@ invariant-loop bucket file length₀ t5 length = length ≤ 56
 abbrev decreases-loop : tie.decreases-loop
 decreases-loop bucket file length₀ t5 length = 56 - length
 
-pub each-length-spec : {M : Type 1} → statement M
-each-length-spec =
+pub each_length_spec : {M : Type 1} → statement M
+each_length_spec =
     tie.close
     (tie.spec
     invariant-loop

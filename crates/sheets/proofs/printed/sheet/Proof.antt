@@ -9,15 +9,15 @@ use borrow.Author.Rules.{rules}
 use Rattle.sheets.proofs.printed.sheet.Statement.{statement}
 use Rattle.sheets.proofs.printed.sheet.Tie as tie
 
-abbrev plan-at : tie.After-answer → tie.After-plan-order
+abbrev plan-at : tie.After-answer → tie.After-plan_order
 plan-at a = a.before.before
 
 abbrev planned-at : tie.After-answer → PlannedRecords
-planned-at a = (plan-at a).plan-order.result
+planned-at a = (plan-at a).plan_order.result
 
 -- the arrays hold a plan that can be printed
 ready : (a : tie.After-answer) → let r = planned-at a in Shown a.answer.given.0.0 r.demands r.records
-ready a = shown _ (planned-at a) (plan-at a).plan-order.ensures _ (ap planned_says a.answer.given.1)
+ready a = shown _ (planned-at a) (plan-at a).plan_order.ensures _ (ap planned_says a.answer.given.1)
 
 abbrev found_at : tie.After-demands2 → tie.After-answer
 found_at c = c.before.before.before.before.before
@@ -25,31 +25,31 @@ found_at c = c.before.before.before.before.before
 returns : tie.Need-returns
 returns c =
     let p = c.before.before.before in
-    sheet_refused _ p.plan-order.result p.plan-order.ensures _ (ap planned_says c.before.answer2.given.1) p.before.before.before.args.text.now
+    sheet_refused _ p.plan_order.result p.plan_order.ensures _ (ap planned_says c.before.answer2.given.1) p.before.before.before.args.text.now
 
-put-sheet-requires : tie.Need-put-sheet-requires
-put-sheet-requires c κs = (ready (found_at c), long longest_sheet)
+put_sheet-requires : tie.Need-put_sheet-requires
+put_sheet-requires c κs = (ready (found_at c), long longest_sheet)
 
-array-share-prefix-ready : tie.Need-array-share-prefix-ready
-array-share-prefix-ready c =
+array_share_prefix-ready : tie.Need-array_share_prefix-ready
+array_share_prefix-ready c =
     let p = c.before in
-    ready_inside _ _ (sheet_room (ready (found_at p.before)) (zeros longest_sheet) (long longest_sheet)) _ _ p.put-sheet.ensures
+    ready_inside _ _ (sheet_room (ready (found_at p.before)) (zeros longest_sheet) (long longest_sheet)) _ _ p.put_sheet.ensures
 
-slice-aggregate-fill : tie.Need-slice-aggregate-fill
-slice-aggregate-fill c =
+slice_aggregate-fill : tie.Need-slice_aggregate-fill
+slice_aggregate-fill c =
     let p = c.before.before in
-    ready_count _ _ (sheet_room (ready (found_at p.before)) (zeros longest_sheet) (long longest_sheet)) _ _ p.put-sheet.ensures
+    ready_count _ _ (sheet_room (ready (found_at p.before)) (zeros longest_sheet) (long longest_sheet)) _ _ p.put_sheet.ensures
 
 returns-2 : tie.Need-returns-2
 returns-2 c =
     let p = c.before.before.before.before.before.before in
     let a = found_at p.before in
     let old = (plan-at a).before.before.before.args.text.now in
-    sheet_filled _ (planned-at a) (plan-at a).plan-order.ensures _ (ap planned_says a.answer.given.1) old _ _
-    (ready_fills _ _ (sheet_room (ready a) (zeros longest_sheet) (long longest_sheet)) _ _ p.put-sheet.ensures old _ _ c.before.before.fill.ensures)
+    sheet_filled _ (planned-at a) (plan-at a).plan_order.ensures _ (ap planned_says a.answer.given.1) old _ _
+    (ready_fills _ _ (sheet_room (ready a) (zeros longest_sheet) (long longest_sheet)) _ _ p.put_sheet.ensures old _ _ c.before.before.fill.ensures)
 
-pub sheet-spec : {M : Type 1} → statement M
-sheet-spec =
+pub sheet_spec : {M : Type 1} → statement M
+sheet_spec =
     tie.close
     (tie.spec
     (λ c κs. search rules)
@@ -58,9 +58,9 @@ sheet-spec =
     returns
     (λ c. search rules)
     (λ c. search rules)
-    put-sheet-requires
-    array-share-prefix-ready
-    slice-aggregate-fill
+    put_sheet-requires
+    array_share_prefix-ready
+    slice_aggregate-fill
     (λ c κs. search rules)
     (λ c. search rules)
     returns-2)

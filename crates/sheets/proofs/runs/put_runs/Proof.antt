@@ -21,7 +21,7 @@ abbrev start_of : tie.In-loop invariant-loop decreases-loop → tie.Start invari
 start_of c = c.before.before.before.before
 
 fits : (s : tie.Start invariant-loop decreases-loop) → s.args.buckets ≤ length s.args.t6
-fits s = omega (arith, s.requires.0, s.well-formed.1.1.1.1.1.0.1.0.1)
+fits s = omega (arith, s.requires.0, s.well_formed.1.1.1.1.1.0.1.0.1)
 
 -- the run's part of the trace
 inside : (c : tie.In-loop invariant-loop decreases-loop) → let s = (start_of c).args in
@@ -34,35 +34,35 @@ inside c =
 loop-holds : tie.Need-loop-init invariant-loop decreases-loop
 loop-holds c = none_printed _ _ _ _ _ _ c.before.before.requires.1.0
 
-array-copy-out-record : tie.Need-array-copy-out-record invariant-loop decreases-loop
-array-copy-out-record c = omega (arith, (start_of c).requires.0)
+array_copy_out-record : tie.Need-array_copy_out-record invariant-loop decreases-loop
+array_copy_out-record c = omega (arith, (start_of c).requires.0)
 
-cast-end : tie.Need-overflow-cast-end invariant-loop decreases-loop
+cast-end : tie.Need-overflow_cast-end invariant-loop decreases-loop
 cast-end c = let i = c.before.before in omega (arith, inside i, (start_of i).requires.1.0.few)
 
-add-end : tie.Need-overflow-add-end invariant-loop decreases-loop
+add-end : tie.Need-overflow_add-end invariant-loop decreases-loop
 add-end c = let i = c.before.before in omega (arith, inside i, (start_of i).requires.1.0.few)
 
-cast-first : tie.Need-overflow-cast-first invariant-loop decreases-loop
+cast-first : tie.Need-overflow_cast-first invariant-loop decreases-loop
 cast-first c = let i = c.before.before in omega (arith, inside i, (start_of i).requires.1.0.few)
 
-add-first : tie.Need-overflow-add-first invariant-loop decreases-loop
+add-first : tie.Need-overflow_add-first invariant-loop decreases-loop
 add-first c = let i = c.before.before in omega (arith, inside i, (start_of i).requires.1.0.few)
 
-part-put-run-start : tie.Need-slice-bounds-put-run-start invariant-loop decreases-loop
-part-put-run-start c = omega (arith, inside c.before.before.before)
+part-put_run-start : tie.Need-slice_bounds-put_run-start invariant-loop decreases-loop
+part-put_run-start c = omega (arith, inside c.before.before.before)
 
-part-put-run-end : tie.Need-slice-bounds-put-run-end invariant-loop decreases-loop
-part-put-run-end c = inside c.before.before.before
+part-put_run-end : tie.Need-slice_bounds-put_run-end invariant-loop decreases-loop
+part-put_run-end c = inside c.before.before.before
 
-put-run-requires : tie.Need-put-run-requires invariant-loop decreases-loop
-put-run-requires c κs =
+put_run-requires : tie.Need-put_run-requires invariant-loop decreases-loop
+put_run-requires c κs =
     let i = c.before.before.before.before in
     let l = i.before.loop in
     let s = start_of i in
     run_ready _ _ _ _ _ _ l.invariant (fits s) i.loop-test.true _ (part-is s.args.trace.now l.start (get_or s.args.t6 l.i no_record).periods) s.pre.1.0 s.pre.1.1
 
-add-i : tie.Need-overflow-add-i invariant-loop decreases-loop
+add-i : tie.Need-overflow_add-i invariant-loop decreases-loop
 add-i c =
     let i = c.before.before.before.before.before.before.before in
     omega (arith, i.loop-test.true, (start_of i).ranges.buckets.fits)
@@ -72,32 +72,32 @@ loop-again c =
     let i = c.before.before.before.before.before.before.before in
     let l = i.before.loop in
     let s = start_of i in
-    one_printed _ _ _ _ _ _ l.invariant (fits s) i.loop-test.true _ (part-is s.args.trace.now l.start (get_or s.args.t6 l.i no_record).periods) _ _ c.before.before.put-run.ensures
+    one_printed _ _ _ _ _ _ l.invariant (fits s) i.loop-test.true _ (part-is s.args.trace.now l.start (get_or s.args.t6 l.i no_record).periods) _ _ c.before.before.put_run.ensures
 
-same_length : tie.Need-same-length invariant-loop decreases-loop
+same_length : tie.Need-same_length invariant-loop decreases-loop
 same_length c = same-room c.before.loop.invariant.put
 
 returns : tie.Need-returns invariant-loop decreases-loop
 returns c = all_printed _ _ _ _ _ _ c.before.loop.invariant c.loop-test.false
 
-pub put-runs-spec : {M : Type 1} → statement M
-put-runs-spec =
+pub put_runs_spec : {M : Type 1} → statement M
+put_runs_spec =
     tie.close
     (tie.spec
     invariant-loop
     decreases-loop
     loop-holds
     (λ c. search rules)
-    array-copy-out-record
+    array_copy_out-record
     cast-end
     add-end
     cast-first
     add-first
     (λ c. search rules)
     (λ c. search rules)
-    part-put-run-start
-    part-put-run-end
-    put-run-requires
+    part-put_run-start
+    part-put_run-end
+    put_run-requires
     add-i
     (λ c. search rules)
     loop-again

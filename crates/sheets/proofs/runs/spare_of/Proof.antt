@@ -13,10 +13,10 @@ use Rattle.sheets.proofs.runs.spare_of.Tie as tie
 trial-requires : tie.Need-trial-requires
 trial-requires c κs = search rules
 
-enum-known-figures : tie.Need-enum-known-figures
-enum-known-figures c = search rules
+enum_known-figures : tie.Need-enum_known-figures
+enum_known-figures c = search rules
 
-enum_told : tie.Need-enum-told
+enum_told : tie.Need-enum_told
 enum_told c = search rules
 
 returns : tie.Need-returns
@@ -33,5 +33,5 @@ returns-2 c =
     let s = t.before.before in
     absurd (figures-refused (sym (tried _ _ s.args.run.now s.requires.0 s.requires.1) ∙ sym t.trial.ensures ∙ ap trial_says c.enum_told.given.1))
 
-pub spare-of-spec : {M : Type 1} → statement M
-spare-of-spec = tie.close (tie.spec trial-requires enum-known-figures enum_told returns returns-2)
+pub spare_of_spec : {M : Type 1} → statement M
+spare_of_spec = tie.close (tie.spec trial-requires enum_known-figures enum_told returns returns-2)

@@ -8,18 +8,18 @@ use Rattle.single.specs.CostLaws.{dear_some}
 use Rattle.single.proofs.costs.dear_from.Statement.{statement}
 use Rattle.single.proofs.costs.dear_from.Tie as tie
 
-add-dear : tie.Need-overflow-add-dear
+add-dear : tie.Need-overflow_add-dear
 add-dear c =
     let s = c.before.before.before in
-    omega (arith, s.requires.1.1.1, div-le_self (s.args.most - (s.args.tariff.fee + s.args.rest)) c.billed-periods.result)
+    omega (arith, s.requires.1.1.1, div-le_self (s.args.most - (s.args.tariff.fee + s.args.rest)) c.billed_periods.result)
 
 returns-3 : tie.Need-returns-3
 returns-3 c =
     let s = c.before.before.before.before in
-    dear_some _ _ _ _ s.requires.1.0 _ (ap (λ (n : ℕ). (s.args.most - (s.args.tariff.fee + s.args.rest)) / n + 1) c.before.billed-periods.ensures) c.if2.false
+    dear_some _ _ _ _ s.requires.1.0 _ (ap (λ (n : ℕ). (s.args.most - (s.args.tariff.fee + s.args.rest)) / n + 1) c.before.billed_periods.ensures) c.if2.false
 
-pub dear-from-spec : {M : Type 1} → statement M
-dear-from-spec =
+pub dear_from_spec : {M : Type 1} → statement M
+dear_from_spec =
     tie.close
     (tie.spec
     (λ c. search rules)

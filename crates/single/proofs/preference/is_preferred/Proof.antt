@@ -17,5 +17,5 @@ tests x y = rw (and-false (eqb x.bucket.depth.0 y.bucket.depth.0), or-false (ltb
 returns : tie.Need-returns
 returns c = tests _ _
 
-pub is-preferred-spec : {M : Type 1} → statement M
-is-preferred-spec = tie.close (tie.spec returns)
+pub is_preferred_spec : {M : Type 1} → statement M
+is_preferred_spec = tie.close (tie.spec returns)

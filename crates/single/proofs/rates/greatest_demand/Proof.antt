@@ -39,19 +39,19 @@ decreases-loop trace top₀ i₀ top i = length trace - i
 loop-holds : tie.Need-loop-init invariant-loop decreases-loop
 loop-holds c = record { inside = omega arith; all = omega arith }
 
-mul-greater : tie.Need-overflow-mul-greater invariant-loop decreases-loop
+mul-greater : tie.Need-overflow_mul-greater invariant-loop decreases-loop
 mul-greater c = search rules
 
-shared-slice-read-greater : tie.Need-shared-slice-read-greater invariant-loop decreases-loop
-shared-slice-read-greater c = search rules
+shared_slice_read-greater : tie.Need-shared_slice_read-greater invariant-loop decreases-loop
+shared_slice_read-greater c = search rules
 
-cast-greater : tie.Need-overflow-cast-greater invariant-loop decreases-loop
-cast-greater c = omega (arith, c.shared-slice-known2.given c.before.before.loop.i)
+cast-greater : tie.Need-overflow_cast-greater invariant-loop decreases-loop
+cast-greater c = omega (arith, c.shared_slice_known2.given c.before.before.loop.i)
 
 greater-requires : tie.Need-greater-requires invariant-loop decreases-loop
 greater-requires c κs = search rules
 
-add-i : tie.Need-overflow-add-i invariant-loop decreases-loop
+add-i : tie.Need-overflow_add-i invariant-loop decreases-loop
 add-i c = search rules
 
 loop-less : tie.Need-loop-smaller invariant-loop decreases-loop
@@ -63,15 +63,15 @@ loop-again c = step _ _ _ c.before.before.before.loop.invariant _ c.before.befor
 returns : tie.Need-returns invariant-loop decreases-loop
 returns c = end _ _ _ c.before.loop.invariant c.loop-test.false
 
-pub greatest-demand-spec : {M : Type 1} → statement M
-greatest-demand-spec =
+pub greatest_demand_spec : {M : Type 1} → statement M
+greatest_demand_spec =
     tie.close
     (tie.spec
     invariant-loop
     decreases-loop
     loop-holds
     mul-greater
-    shared-slice-read-greater
+    shared_slice_read-greater
     cast-greater
     greater-requires
     add-i

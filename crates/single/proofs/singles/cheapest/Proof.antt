@@ -43,22 +43,22 @@ invariant-loop trace tariff periods end best₀ next₀ best next = Weighing tar
 abbrev decreases-loop : tie.decreases-loop
 decreases-loop trace tariff periods end best₀ next₀ best next = end - next
 
-rates-to-weigh-requires : tie.Need-rates-to-weigh-requires invariant-loop decreases-loop
-rates-to-weigh-requires c κs = c.before.requires.1
+rates_to_weigh-requires : tie.Need-rates_to_weigh-requires invariant-loop decreases-loop
+rates_to_weigh-requires c κs = c.before.requires.1
 
 loop-holds : tie.Need-loop-init invariant-loop decreases-loop
 loop-holds c = start _ _ _
 
-add-next : tie.Need-overflow-add-next invariant-loop decreases-loop
+add-next : tie.Need-overflow_add-next invariant-loop decreases-loop
 add-next c = search rules
 
-depth-at-requires : tie.Need-depth-at-requires invariant-loop decreases-loop
-depth-at-requires c κs = search rules
+depth_at-requires : tie.Need-depth_at-requires invariant-loop decreases-loop
+depth_at-requires c κs = search rules
 
-enum-known-depth : tie.Need-enum-known-depth invariant-loop decreases-loop
-enum-known-depth c = search rules
+enum_known-depth : tie.Need-enum_known-depth invariant-loop decreases-loop
+enum_known-depth c = search rules
 
-enum_told : tie.Need-enum-told invariant-loop decreases-loop
+enum_told : tie.Need-enum_told invariant-loop decreases-loop
 enum_told c = search rules
 
 loop-less : tie.Need-loop-smaller invariant-loop decreases-loop
@@ -66,12 +66,12 @@ loop-less c = search rules
 
 -- the rate that is weighed
 slow : (c : tie.In-loop invariant-loop decreases-loop) → c.before.loop.next ≤ c.before.before.before.before.args.tariff.rate_cap.0
-slow c = let a = c.before.before.before.before.args in inside_cap a.tariff a.trace.now _ _ c.before.before.rates-to-weigh.ensures c.loop-test.true
+slow c = let a = c.before.before.before.before.args in inside_cap a.tariff a.trace.now _ _ c.before.before.rates_to_weigh.ensures c.loop-test.true
 
 -- what the depth call says of it
-there : (c : tie.After-depth-at invariant-loop decreases-loop) → let s = c.before.before.before.before.before in
-    depth_says c.depth-at.result ≡ tariff_depth s.args.tariff c.before.before.loop.next s.args.trace.now
-there c = let s = c.before.before.before.before.before in c.depth-at.ensures ∙ in_range _ _ _ s.requires.0 s.requires.1 (slow c.before)
+there : (c : tie.After-depth_at invariant-loop decreases-loop) → let s = c.before.before.before.before.before in
+    depth_says c.depth_at.result ≡ tariff_depth s.args.tariff c.before.before.loop.next s.args.trace.now
+there c = let s = c.before.before.before.before.before in c.depth_at.ensures ∙ in_range _ _ _ s.requires.0 s.requires.1 (slow c.before)
 
 -- a depth that is found
 found : (c : tie.After-depth invariant-loop decreases-loop) → let s = c.before.before.before.before.before.before.before in
@@ -86,32 +86,32 @@ loop-again c =
       so_far = best_next _ _ _ (refused _) _ (sym (ap depth_says c.enum_told.given.1) ∙ there d) d.before.before.loop.invariant.so_far;
     }
 
-with-cost-requires : tie.Need-with-cost-requires invariant-loop decreases-loop
-with-cost-requires c κs =
+with_cost-requires : tie.Need-with_cost-requires invariant-loop decreases-loop
+with_cost-requires c κs =
     let d = c.before.before.before in
     let h = d.before.before.before.before.before.requires in
     (h.1, (h.0.few, record { rates = le_trans (slow d.before) h.1.rate_caps; depths = le_trans (depth-within _ _ _ _ _ (sym (found c.before))) h.1.depth_caps }))
 
-with-cost-requires-2 : tie.Need-with-cost-requires-2 invariant-loop decreases-loop
-with-cost-requires-2 c κs =
+with_cost-requires-2 : tie.Need-with_cost-requires-2 invariant-loop decreases-loop
+with_cost-requires-2 c κs =
     let d = c.before.before.before.before in
     let h = d.before.before.before.before.before.requires in
     (h.1, (h.0.few, record { rates = le_trans (slow d.before) h.1.rate_caps; depths = omega arith }))
 
-better-of-requires : tie.Need-better-of-requires invariant-loop decreases-loop
-better-of-requires c κs = search rules
+better_of-requires : tie.Need-better_of-requires invariant-loop decreases-loop
+better_of-requires c κs = search rules
 
-costs-less-requires : tie.Need-costs-less-requires invariant-loop decreases-loop
-costs-less-requires c κs = search rules
+costs_less-requires : tie.Need-costs_less-requires invariant-loop decreases-loop
+costs_less-requires c κs = search rules
 
 -- the best with this rate weighed
-best-here : (c : tie.After-better-of invariant-loop decreases-loop) → let d = c.before.before.before.before in
+best-here : (c : tie.After-better_of invariant-loop decreases-loop) → let d = c.before.before.before.before in
     let s = d.before.before.before.before.before.before.before in
-    single_says c.better-of.result ≡ best_of s.args.tariff s.args.trace.now (d.before.before.before.before.loop.next + 1)
+    single_says c.better_of.result ≡ best_of s.args.tariff s.args.trace.now (d.before.before.before.before.loop.next + 1)
 best-here c =
     let d = c.before.before.before.before in
-    c.better-of.ensures
-    ∙ ap (λ (x : Priced). better (single_says d.before.before.before.before.loop.best) (figures x)) c.before.before.with-cost.ensures
+    c.better_of.ensures
+    ∙ ap (λ (x : Priced). better (single_says d.before.before.before.before.loop.best) (figures x)) c.before.before.with_cost.ensures
     ∙ best_next _ _ _ (figures _) _ (found d) d.before.before.before.before.loop.invariant.so_far
 
 returns : tie.Need-returns invariant-loop decreases-loop
@@ -119,7 +119,7 @@ returns c =
     let d = c.before.before in
     let i = d.before.before.before.before.before.before.before in
     dearer-enough _ _ _ _ (best-here d)
-    (ap (λ (x : Priced). dearer x (single_says d.better-of.result)) (sym d.before.with-cost2.ensures) ∙ sym c.before.costs-less.ensures ∙ c.if1.true)
+    (ap (λ (x : Priced). dearer x (single_says d.better_of.result)) (sym d.before.with_cost2.ensures) ∙ sym c.before.costs_less.ensures ∙ c.if1.true)
     (omega (arith, slow i))
 
 loop-less-2 : tie.Need-loop-smaller-2 invariant-loop decreases-loop
@@ -133,27 +133,27 @@ loop-again-2 c =
 returns-2 : tie.Need-returns-2 invariant-loop decreases-loop
 returns-2 c =
     let l = c.before in
-    let e : l.loop.next ≡ l.before.rates-to-weigh.result = le_antisymm l.loop.invariant.inside c.loop-test.false in
-    l.loop.invariant.so_far ∙ ap (best_of _ _) (e ∙ l.before.rates-to-weigh.ensures) ∙ weighed-enough _ _
+    let e : l.loop.next ≡ l.before.rates_to_weigh.result = le_antisymm l.loop.invariant.inside c.loop-test.false in
+    l.loop.invariant.so_far ∙ ap (best_of _ _) (e ∙ l.before.rates_to_weigh.ensures) ∙ weighed-enough _ _
 
-pub cheapest-spec : {M : Type 1} → statement M
-cheapest-spec =
+pub cheapest_spec : {M : Type 1} → statement M
+cheapest_spec =
     tie.close
     (tie.spec
     invariant-loop
     decreases-loop
-    rates-to-weigh-requires
+    rates_to_weigh-requires
     loop-holds
     add-next
-    depth-at-requires
-    enum-known-depth
+    depth_at-requires
+    enum_known-depth
     enum_told
     loop-less
     loop-again
-    with-cost-requires
-    with-cost-requires-2
-    better-of-requires
-    costs-less-requires
+    with_cost-requires
+    with_cost-requires-2
+    better_of-requires
+    costs_less-requires
     returns
     loop-less-2
     loop-again-2

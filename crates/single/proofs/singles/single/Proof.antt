@@ -10,27 +10,27 @@ use Rattle.single.specs.Single.{single_of}
 use Rattle.single.proofs.singles.single.Statement.{statement}
 use Rattle.single.proofs.singles.single.Tie as tie
 
-periods-in-range-requires : tie.Need-periods-in-range-requires
-periods-in-range-requires c κs = search rules
+periods_in_range-requires : tie.Need-periods_in_range-requires
+periods_in_range-requires c κs = search rules
 
 returns : tie.Need-returns
 unfolding single_of
-returns c = rw (check_failed c.before.periods-in-range.ensures c.if1.true)
+returns c = rw (check_failed c.before.periods_in_range.ensures c.if1.true)
 
-tariff-in-range-requires : tie.Need-tariff-in-range-requires
-tariff-in-range-requires c κs = search rules
+tariff_in_range-requires : tie.Need-tariff_in_range-requires
+tariff_in_range-requires c κs = search rules
 
 -- past the first test
 periods : (c : tie.Else1) → periods_ok (length c.before.before.before.args.trace.now) ≡ true
-periods c = check_passed c.before.periods-in-range.ensures c.if1.false
+periods c = check_passed c.before.periods_in_range.ensures c.if1.false
 
 returns-2 : tie.Need-returns-2
 unfolding single_of
-returns-2 c = rw (periods c.before.before, check_failed c.before.tariff-in-range.ensures c.if2.true)
+returns-2 c = rw (periods c.before.before, check_failed c.before.tariff_in_range.ensures c.if2.true)
 
 -- past the second
 figures : (c : tie.Else2) → tariff_ok c.before.before.before.before.before.args.tariff ≡ true
-figures c = check_passed c.before.tariff-in-range.ensures c.if2.false
+figures c = check_passed c.before.tariff_in_range.ensures c.if2.false
 
 cheapest-requires : tie.Need-cheapest-requires
 cheapest-requires c κs = (periods_range _ (periods c.before.before), tariff_range _ (figures c))
@@ -39,13 +39,13 @@ returns-3 : tie.Need-returns-3
 unfolding single_of
 returns-3 c = c.cheapest.ensures ∙ rw (periods c.before.before.before, figures c.before)
 
-pub single-spec : {M : Type 1} → statement M
-single-spec =
+pub single_spec : {M : Type 1} → statement M
+single_spec =
     tie.close
     (tie.spec
-    periods-in-range-requires
+    periods_in_range-requires
     returns
-    tariff-in-range-requires
+    tariff_in_range-requires
     returns-2
     cheapest-requires
     returns-3)

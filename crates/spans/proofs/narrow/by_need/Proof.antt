@@ -12,34 +12,34 @@ fits s = fit s.requires.0 s.requires.1.0 s.requires.1.1.0 s.requires.1.1.1.0
 returns : tie.Need-returns
 returns c = kept_same c.before.before.requires.1.1.1.1
 
-mul-price : tie.Need-overflow-mul-price
+mul-price : tie.Need-overflow_mul-price
 mul-price c = omega (arith, (fits c.before.before.before.before.before).price)
 
-mul-deep : tie.Need-overflow-mul-deep
+mul-deep : tie.Need-overflow_mul-deep
 mul-deep c = omega (arith, (fits c.before.before.before.before.before.before).deep)
 
-mul-cut : tie.Need-overflow-mul-cut
+mul-cut : tie.Need-overflow_mul-cut
 mul-cut c = omega (arith, (fits c.before.before.before.before.before.before.before).deep_sum)
 
-add-cut : tie.Need-overflow-add-cut
+add-cut : tie.Need-overflow_add-cut
 add-cut c = omega (arith, (fits c.before.before.before.before.before.before.before).deep_sum, c.before.before.before.before.before.before.before.requires.1.0.part, c.before.before.before.before.before.before.before.requires.1.0.few)
 
-mul-cut-2 : tie.Need-overflow-mul-cut-2
+mul-cut-2 : tie.Need-overflow_mul-cut-2
 mul-cut-2 c = omega (arith, (fits c.before.before.before.before.before.before.before).dears)
 
-mul-cut-3 : tie.Need-overflow-mul-cut-3
+mul-cut-3 : tie.Need-overflow_mul-cut-3
 mul-cut-3 c = omega (arith, (fits c.before.before.before.before.before.before.before.before).deep_len)
 
 cut-requires : tie.Need-cut-requires
 cut-requires c κs = let s = c.before.before.before.before.before.before.before.before in let f = fits s in (s.requires.1.1.1.1, (omega (arith, f.price), (omega (arith, f.deep_sum, s.requires.1.0.part, s.requires.1.0.few), (omega (arith, f.dears), omega (arith, f.deep_len)))))
 
-mul-cut-4 : tie.Need-overflow-mul-cut-4
+mul-cut-4 : tie.Need-overflow_mul-cut-4
 mul-cut-4 c = omega (arith, (fits c.before.before.before.before.before.before.before.before.before.before).sums)
 
-mul-cut-5 : tie.Need-overflow-mul-cut-5
+mul-cut-5 : tie.Need-overflow_mul-cut-5
 mul-cut-5 c = omega (arith, (fits c.before.before.before.before.before.before.before.before.before.before.before).caps)
 
-mul-cut-6 : tie.Need-overflow-mul-cut-6
+mul-cut-6 : tie.Need-overflow_mul-cut-6
 mul-cut-6 c = omega (arith, (fits c.before.before.before.before.before.before.before.before.before.before.before.before).lens)
 
 cut-requires-2 : tie.Need-cut-requires-2
@@ -48,8 +48,8 @@ cut-requires-2 c κs = let s = c.before.before.before.before.before.before.befor
 returns-2 : tie.Need-returns-2
 returns-2 c = kept_if (λ x a. (allows_charge _ _ _ _ x a, allows_cap _ _ _ _ x a)) (kept_then c.before.before.before.before.cut.ensures c.cut2.ensures)
 
-pub by-need-spec : {M : Type 1} → statement M
-by-need-spec =
+pub by_need_spec : {M : Type 1} → statement M
+by_need_spec =
     tie.close
     (tie.spec
     returns

@@ -6,7 +6,7 @@ use Rattle.spans.proofs.spans.cut.Tie as tie
 raised-requires : tie.Need-raised-requires
 raised-requires c κs = search rules
 
-sub-lowered : tie.Need-overflow-sub-lowered
+sub-lowered : tie.Need-overflow_sub-lowered
 sub-lowered c = search rules
 
 lowered-requires : tie.Need-lowered-requires

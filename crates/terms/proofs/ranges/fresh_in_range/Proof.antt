@@ -3,15 +3,15 @@ use borrow.Author.Rules.{rules}
 use Rattle.terms.proofs.ranges.fresh_in_range.Statement.{statement}
 use Rattle.terms.proofs.ranges.fresh_in_range.Tie as tie
 
-bucket-in-range-requires : tie.Need-bucket-in-range-requires
-bucket-in-range-requires c κs = search rules
+bucket_in_range-requires : tie.Need-bucket_in_range-requires
+bucket_in_range-requires c κs = search rules
 
-factor-in-range-requires : tie.Need-factor-in-range-requires
-factor-in-range-requires c κs = search rules
+factor_in_range-requires : tie.Need-factor_in_range-requires
+factor_in_range-requires c κs = search rules
 
 returns : tie.Need-returns
-returns c = rw (c.before.bucket-in-range.ensures, c.factor-in-range.ensures)
+returns c = rw (c.before.bucket_in_range.ensures, c.factor_in_range.ensures)
 
-pub fresh-in-range-spec : {M : Type 1} → statement M
-fresh-in-range-spec =
-    tie.close (tie.spec bucket-in-range-requires factor-in-range-requires returns)
+pub fresh_in_range_spec : {M : Type 1} → statement M
+fresh_in_range_spec =
+    tie.close (tie.spec bucket_in_range-requires factor_in_range-requires returns)

@@ -3,11 +3,11 @@ use borrow.Author.Rules.{rules}
 use Rattle.terms.proofs.ranges.record_in_range.Statement.{statement}
 use Rattle.terms.proofs.ranges.record_in_range.Tie as tie
 
-bucket-in-range-requires : tie.Need-bucket-in-range-requires
-bucket-in-range-requires c κs = search rules
+bucket_in_range-requires : tie.Need-bucket_in_range-requires
+bucket_in_range-requires c κs = search rules
 
 returns : tie.Need-returns
-returns c = rw c.bucket-in-range.ensures
+returns c = rw c.bucket_in_range.ensures
 
-pub record-in-range-spec : {M : Type 1} → statement M
-record-in-range-spec = tie.close (tie.spec bucket-in-range-requires returns)
+pub record_in_range_spec : {M : Type 1} → statement M
+record_in_range_spec = tie.close (tie.spec bucket_in_range-requires returns)

@@ -3,11 +3,11 @@ use borrow.Author.Rules.{rules}
 use Rattle.terms.proofs.ranges.tariff_in_range.Statement.{statement}
 use Rattle.terms.proofs.ranges.tariff_in_range.Tie as tie
 
-factor-in-range-requires : tie.Need-factor-in-range-requires
-factor-in-range-requires c κs = search rules
+factor_in_range-requires : tie.Need-factor_in_range-requires
+factor_in_range-requires c κs = search rules
 
 returns : tie.Need-returns
-returns c = rw c.before.before.factor-in-range.ensures
+returns c = rw c.before.before.factor_in_range.ensures
 
-pub tariff-in-range-spec : {M : Type 1} → statement M
-tariff-in-range-spec = tie.close (tie.spec factor-in-range-requires returns)
+pub tariff_in_range_spec : {M : Type 1} → statement M
+tariff_in_range_spec = tie.close (tie.spec factor_in_range-requires returns)

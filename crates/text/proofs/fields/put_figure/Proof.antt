@@ -7,29 +7,29 @@ use borrow.Author.Rules.{rules}
 use Rattle.text.proofs.fields.put_figure.Statement.{statement}
 use Rattle.text.proofs.fields.put_figure.Tie as tie
 
-put-megabits-requires : tie.Need-put-megabits-requires
-put-megabits-requires c κs =
+put_megabits-requires : tie.Need-put_megabits-requires
+put_megabits-requires c κs =
     let s = c.before.before in
     rw (to_z-of_z s.ranges.figure) (omega (arith, s.requires, ended-length (megabits s.args.figure) s.args.after))
 
-slice-write-text : tie.Need-slice-write-text
-slice-write-text c =
+slice_write-text : tie.Need-slice_write-text
+slice_write-text c =
     let s = c.before.before.before.before.before in
-    let p = rw (to_z-of_z s.ranges.figure) at c.before.before.put-megabits.ensures in
+    let p = rw (to_z-of_z s.ranges.figure) at c.before.before.put_megabits.ensures in
     omega (arith, s.requires, ended-length (megabits s.args.figure) s.args.after, p.place, same-room p)
 
-add-result : tie.Need-overflow-add-result
+add-result : tie.Need-overflow_add-result
 add-result c =
     let s = c.before.before.before.before.before in
-    let p = rw (to_z-of_z s.ranges.figure) at c.before.before.put-megabits.ensures in
+    let p = rw (to_z-of_z s.ranges.figure) at c.before.before.put_megabits.ensures in
     omega (arith, s.requires, ended-length (megabits s.args.figure) s.args.after, p.place, same-room p)
 
-same_length : tie.Need-same-length
+same_length : tie.Need-same_length
 same_length c = search rules
 
 returns : tie.Need-returns
-returns c = puts_byte (rw (to_z-of_z c.before.before.before.before.before.ranges.figure) at c.before.before.put-megabits.ensures) _
+returns c = puts_byte (rw (to_z-of_z c.before.before.before.before.before.ranges.figure) at c.before.before.put_megabits.ensures) _
 
-pub put-figure-spec : {M : Type 1} → statement M
-put-figure-spec =
-    tie.close (tie.spec put-megabits-requires slice-write-text add-result same_length returns)
+pub put_figure_spec : {M : Type 1} → statement M
+put_figure_spec =
+    tie.close (tie.spec put_megabits-requires slice_write-text add-result same_length returns)

@@ -6,17 +6,17 @@ use borrow.Author.Rules.{rules}
 use Rattle.text.proofs.fields.put_tokens.Statement.{statement}
 use Rattle.text.proofs.fields.put_tokens.Tie as tie
 
-cast-put-figure : tie.Need-overflow-cast-put-figure
-cast-put-figure c = search rules
+cast-put_figure : tie.Need-overflow_cast-put_figure
+cast-put_figure c = search rules
 
-put-figure-requires : tie.Need-put-figure-requires
-put-figure-requires c κs = let s = c.before.before in rw (to_z_pos w64 {n = s.args.tokens} (omega (arith, s.ranges.tokens.fits))) s.requires
+put_figure-requires : tie.Need-put_figure-requires
+put_figure-requires c κs = let s = c.before.before in rw (to_z_pos w64 {n = s.args.tokens} (omega (arith, s.ranges.tokens.fits))) s.requires
 
-same_length : tie.Need-same-length
+same_length : tie.Need-same_length
 same_length c = search rules
 
 returns : tie.Need-returns
-returns c = let s = c.before.before.before.before.before in rw (to_z_pos w64 {n = s.args.tokens} (omega (arith, s.ranges.tokens.fits))) at c.before.before.put-figure.ensures
+returns c = let s = c.before.before.before.before.before in rw (to_z_pos w64 {n = s.args.tokens} (omega (arith, s.ranges.tokens.fits))) at c.before.before.put_figure.ensures
 
-pub put-tokens-spec : {M : Type 1} → statement M
-put-tokens-spec = tie.close (tie.spec cast-put-figure put-figure-requires same_length returns)
+pub put_tokens_spec : {M : Type 1} → statement M
+put_tokens_spec = tie.close (tie.spec cast-put_figure put_figure-requires same_length returns)

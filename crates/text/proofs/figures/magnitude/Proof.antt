@@ -28,19 +28,19 @@ some (negsuc n) h = omega arith
 below : (c : tie.Then1) → lt_z c.before.args.z (pos 0) ≡ true
 below c = rw (to_z-of_z c.before.ranges.z) at c.if1.true
 
-cast-result : tie.Need-overflow-cast-result
+cast-result : tie.Need-overflow_cast-result
 cast-result c =
     let z = c.before.args.z in
     let f = c.before.ranges.z in
     rw (turned z f (below c)) (tt, record { fits = omega (arith, nat_abs-le z f.sfits) })
 
-add-result : tie.Need-overflow-add-result
+add-result : tie.Need-overflow_add-result
 add-result c =
     let z = c.before.args.z in
     let f = c.before.ranges.z in
     rw (turned z f (below c)) (record { fits = omega (arith, nat_abs-le z f.sfits) })
 
-cast-result-2 : tie.Need-overflow-cast-result-2
+cast-result-2 : tie.Need-overflow_cast-result-2
 cast-result-2 c =
     let z = c.before.args.z in
     let f = c.before.ranges.z in
@@ -54,5 +54,5 @@ returns c =
 returns-2 : tie.Need-returns-2
 returns-2 c = rw (to_z-of_z c.before.ranges.z)
 
-pub magnitude-spec : {M : Type 1} → statement M
-magnitude-spec = tie.close (tie.spec cast-result add-result cast-result-2 returns returns-2)
+pub magnitude_spec : {M : Type 1} → statement M
+magnitude_spec = tie.close (tie.spec cast-result add-result cast-result-2 returns returns-2)

@@ -14,13 +14,13 @@ use Rattle.text.proofs.figures.put_sign.Tie as tie
 below : (c : tie.Then1) → lt_z c.before.args.figure (pos 0) ≡ true
 below c = rw (to_z-of_z c.before.ranges.figure) at c.if1.true
 
-slice-write-text : tie.Need-slice-write-text
-slice-write-text c = omega (arith, c.before.requires, sign-length c.before.args.figure (below c))
+slice_write-text : tie.Need-slice_write-text
+slice_write-text c = omega (arith, c.before.requires, sign-length c.before.args.figure (below c))
 
-add-result : tie.Need-overflow-add-result
+add-result : tie.Need-overflow_add-result
 add-result c = search rules
 
-same_length : tie.Need-same-length
+same_length : tie.Need-same_length
 same_length c = search rules
 
 returns : tie.Need-returns
@@ -29,5 +29,5 @@ returns c = puts_sign _ _ c.before.args.figure (below c)
 returns-2 : tie.Need-returns-2
 returns-2 c = puts_no-sign _ _ c.before.args.figure (rw (to_z-of_z c.before.ranges.figure) at c.if1.false)
 
-pub put-sign-spec : {M : Type 1} → statement M
-put-sign-spec = tie.close (tie.spec slice-write-text add-result same_length returns returns-2)
+pub put_sign_spec : {M : Type 1} → statement M
+put_sign_spec = tie.close (tie.spec slice_write-text add-result same_length returns returns-2)

@@ -16,18 +16,18 @@ field₁ s = ended (megabits (pos s.args.bucket.rate.0)) space
 abbrev field₂ : tie.Start → List ℕ
 field₂ s = ended (megabits (pos s.args.bucket.depth.0)) space
 
-put-tokens-requires : tie.Need-put-tokens-requires
-put-tokens-requires c κs =
+put_tokens-requires : tie.Need-put_tokens-requires
+put_tokens-requires c κs =
     let s = c.before.before in
     first_of_two s.args.text.now s.args.at (field₁ s) (field₂ s) s.requires
 
-put-tokens-requires-2 : tie.Need-put-tokens-requires-2
-put-tokens-requires-2 c κs =
+put_tokens-requires-2 : tie.Need-put_tokens-requires-2
+put_tokens-requires-2 c κs =
     let c1 = c.before.before.before in
     let s = c1.before.before.before in
-    second_of_two s.args.text.now s.args.at (field₁ s) (field₂ s) s.requires c1.put-tokens.ensures
+    second_of_two s.args.text.now s.args.at (field₁ s) (field₂ s) s.requires c1.put_tokens.ensures
 
-same_length : tie.Need-same-length
+same_length : tie.Need-same_length
 same_length c = search rules
 
 returns : tie.Need-returns
@@ -35,8 +35,8 @@ returns c =
     let c2 = c.before.before in
     let c1 = c2.before.before.before.before in
     let s = c1.before.before.before in
-    two s.args.text.now s.args.at (field₁ s) (field₂ s) c1.put-tokens.ensures c2.put-tokens2.ensures
+    two s.args.text.now s.args.at (field₁ s) (field₂ s) c1.put_tokens.ensures c2.put_tokens2.ensures
 
-pub put-bucket-spec : {M : Type 1} → statement M
-put-bucket-spec =
-    tie.close (tie.spec put-tokens-requires put-tokens-requires-2 same_length returns)
+pub put_bucket_spec : {M : Type 1} → statement M
+put_bucket_spec =
+    tie.close (tie.spec put_tokens-requires put_tokens-requires-2 same_length returns)

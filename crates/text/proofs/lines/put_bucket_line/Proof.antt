@@ -22,33 +22,33 @@ field₃ s = bucket_fields s.args.bucket
 abbrev field₄ : tie.Start → List ℕ
 field₄ s = ended (megabits s.args.spare) newline
 
-put-number-requires : tie.Need-put-number-requires
-put-number-requires c κs =
+put_number-requires : tie.Need-put_number-requires
+put_number-requires c κs =
     let s = c.before.before in
     first_of_four s.args.text.now s.args.at (field₁ s) (field₂ s) (field₃ s) (field₄ s) s.requires
 
-put-number-requires-2 : tie.Need-put-number-requires-2
-put-number-requires-2 c κs =
+put_number-requires-2 : tie.Need-put_number-requires-2
+put_number-requires-2 c κs =
     let c1 = c.before.before.before in
     let s = c1.before.before.before in
-    second_of_four s.args.text.now s.args.at (field₁ s) (field₂ s) (field₃ s) (field₄ s) s.requires c1.put-number.ensures
+    second_of_four s.args.text.now s.args.at (field₁ s) (field₂ s) (field₃ s) (field₄ s) s.requires c1.put_number.ensures
 
-put-bucket-requires : tie.Need-put-bucket-requires
-put-bucket-requires c κs =
+put_bucket-requires : tie.Need-put_bucket-requires
+put_bucket-requires c κs =
     let c2 = c.before.before.before in
     let c1 = c2.before.before.before.before in
     let s = c1.before.before.before in
-    third_of_four s.args.text.now s.args.at (field₁ s) (field₂ s) (field₃ s) (field₄ s) s.requires c1.put-number.ensures c2.put-number2.ensures
+    third_of_four s.args.text.now s.args.at (field₁ s) (field₂ s) (field₃ s) (field₄ s) s.requires c1.put_number.ensures c2.put_number2.ensures
 
-put-figure-requires : tie.Need-put-figure-requires
-put-figure-requires c κs =
+put_figure-requires : tie.Need-put_figure-requires
+put_figure-requires c κs =
     let c3 = c.before.before.before in
     let c2 = c3.before.before.before.before in
     let c1 = c2.before.before.before.before in
     let s = c1.before.before.before in
-    rw (to_z-of_z s.ranges.spare) (fourth_of_four s.args.text.now s.args.at (field₁ s) (field₂ s) (field₃ s) (field₄ s) s.requires c1.put-number.ensures c2.put-number2.ensures c3.put-bucket.ensures)
+    rw (to_z-of_z s.ranges.spare) (fourth_of_four s.args.text.now s.args.at (field₁ s) (field₂ s) (field₃ s) (field₄ s) s.requires c1.put_number.ensures c2.put_number2.ensures c3.put_bucket.ensures)
 
-same_length : tie.Need-same-length
+same_length : tie.Need-same_length
 same_length c = search rules
 
 returns : tie.Need-returns
@@ -58,15 +58,15 @@ returns c =
     let c2 = c3.before.before.before.before in
     let c1 = c2.before.before.before.before in
     let s = c1.before.before.before in
-    four s.args.text.now s.args.at (field₁ s) (field₂ s) (field₃ s) (field₄ s) c1.put-number.ensures c2.put-number2.ensures c3.put-bucket.ensures (rw (to_z-of_z s.ranges.spare) at c4.put-figure.ensures)
+    four s.args.text.now s.args.at (field₁ s) (field₂ s) (field₃ s) (field₄ s) c1.put_number.ensures c2.put_number2.ensures c3.put_bucket.ensures (rw (to_z-of_z s.ranges.spare) at c4.put_figure.ensures)
 
-pub put-bucket-line-spec : {M : Type 1} → statement M
-put-bucket-line-spec =
+pub put_bucket_line_spec : {M : Type 1} → statement M
+put_bucket_line_spec =
     tie.close
     (tie.spec
-    put-number-requires
-    put-number-requires-2
-    put-bucket-requires
-    put-figure-requires
+    put_number-requires
+    put_number-requires-2
+    put_bucket-requires
+    put_figure-requires
     same_length
     returns)

@@ -16,21 +16,21 @@ field₁ s = ended depth_word space
 abbrev field₂ : tie.Start → List ℕ
 field₂ s = ended (megabits (pos s.args.depth.0)) s.args.after
 
-slice-aggregate-put-word : tie.Need-slice-aggregate-put-word
-slice-aggregate-put-word c = search rules
+slice-aggregate-put_word : tie.Need-slice-aggregate-put_word
+slice-aggregate-put_word c = search rules
 
-put-word-requires : tie.Need-put-word-requires
-put-word-requires c κs =
+put_word-requires : tie.Need-put_word-requires
+put_word-requires c κs =
     let s = c.before.before.before in
     first_of_two s.args.text.now s.args.at (field₁ s) (field₂ s) s.requires
 
-put-tokens-requires : tie.Need-put-tokens-requires
-put-tokens-requires c κs =
+put_tokens-requires : tie.Need-put_tokens-requires
+put_tokens-requires c κs =
     let c1 = c.before.before.before in
     let s = c1.before.before.before.before in
     second_of_two s.args.text.now s.args.at (field₁ s) (field₂ s) s.requires c1.put_word.ensures
 
-same_length : tie.Need-same-length
+same_length : tie.Need-same_length
 same_length c = search rules
 
 returns : tie.Need-returns
@@ -38,14 +38,14 @@ returns c =
     let c2 = c.before.before in
     let c1 = c2.before.before.before.before in
     let s = c1.before.before.before.before in
-    two s.args.text.now s.args.at (field₁ s) (field₂ s) c1.put_word.ensures c2.put-tokens.ensures
+    two s.args.text.now s.args.at (field₁ s) (field₂ s) c1.put_word.ensures c2.put_tokens.ensures
 
-pub put-depth-spec : {M : Type 1} → statement M
-put-depth-spec =
+pub put_depth_spec : {M : Type 1} → statement M
+put_depth_spec =
     tie.close
     (tie.spec
-    slice-aggregate-put-word
-    put-word-requires
-    put-tokens-requires
+    slice-aggregate-put_word
+    put_word-requires
+    put_tokens-requires
     same_length
     returns)

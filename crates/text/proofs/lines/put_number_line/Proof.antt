@@ -14,18 +14,18 @@ field₁ s = ended s.args.word.now space
 abbrev field₂ : tie.Start → List ℕ
 field₂ s = ended (numeral s.args.number) newline
 
-put-word-requires : tie.Need-put-word-requires
-put-word-requires c κs =
+put_word-requires : tie.Need-put_word-requires
+put_word-requires c κs =
     let s = c.before.before.before in
     first_of_two s.args.text.now s.args.at (field₁ s) (field₂ s) s.requires
 
-put-number-requires : tie.Need-put-number-requires
-put-number-requires c κs =
+put_number-requires : tie.Need-put_number-requires
+put_number-requires c κs =
     let c1 = c.before.before.before in
     let s = c1.before.before.before.before in
     second_of_two s.args.text.now s.args.at (field₁ s) (field₂ s) s.requires c1.put_word.ensures
 
-same_length : tie.Need-same-length
+same_length : tie.Need-same_length
 same_length c = search rules
 
 returns : tie.Need-returns
@@ -33,9 +33,9 @@ returns c =
     let c2 = c.before.before in
     let c1 = c2.before.before.before.before in
     let s = c1.before.before.before.before in
-    two s.args.text.now s.args.at (field₁ s) (field₂ s) c1.put_word.ensures c2.put-number.ensures
+    two s.args.text.now s.args.at (field₁ s) (field₂ s) c1.put_word.ensures c2.put_number.ensures
 
-pub put-number-line-spec : {M : Type 1} → statement M
-put-number-line-spec =
+pub put_number_line_spec : {M : Type 1} → statement M
+put_number_line_spec =
     tie.close
-    (tie.spec put-word-requires put-number-requires same_length returns)
+    (tie.spec put_word-requires put_number-requires same_length returns)

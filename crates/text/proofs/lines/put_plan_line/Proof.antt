@@ -20,36 +20,36 @@ field₃ s = ended (numeral s.args.buckets) space
 abbrev field₄ : tie.Start → List ℕ
 field₄ s = ended (numeral s.args.cost) newline
 
-slice-aggregate-put-word : tie.Need-slice-aggregate-put-word
-slice-aggregate-put-word c = search rules
+slice-aggregate-put_word : tie.Need-slice-aggregate-put_word
+slice-aggregate-put_word c = search rules
 
-put-word-requires : tie.Need-put-word-requires
-put-word-requires c κs =
+put_word-requires : tie.Need-put_word-requires
+put_word-requires c κs =
     let s = c.before.before.before in
     first_of_four s.args.text.now s.args.at (field₁ s) (field₂ s) (field₃ s) (field₄ s) s.requires
 
-put-number-requires : tie.Need-put-number-requires
-put-number-requires c κs =
+put_number-requires : tie.Need-put_number-requires
+put_number-requires c κs =
     let c1 = c.before.before.before in
     let s = c1.before.before.before.before in
     second_of_four s.args.text.now s.args.at (field₁ s) (field₂ s) (field₃ s) (field₄ s) s.requires c1.put_word.ensures
 
-put-number-requires-2 : tie.Need-put-number-requires-2
-put-number-requires-2 c κs =
+put_number-requires-2 : tie.Need-put_number-requires-2
+put_number-requires-2 c κs =
     let c2 = c.before.before.before in
     let c1 = c2.before.before.before.before in
     let s = c1.before.before.before.before in
-    third_of_four s.args.text.now s.args.at (field₁ s) (field₂ s) (field₃ s) (field₄ s) s.requires c1.put_word.ensures c2.put-number.ensures
+    third_of_four s.args.text.now s.args.at (field₁ s) (field₂ s) (field₃ s) (field₄ s) s.requires c1.put_word.ensures c2.put_number.ensures
 
-put-number-requires-3 : tie.Need-put-number-requires-3
-put-number-requires-3 c κs =
+put_number-requires-3 : tie.Need-put_number-requires-3
+put_number-requires-3 c κs =
     let c3 = c.before.before.before in
     let c2 = c3.before.before.before.before in
     let c1 = c2.before.before.before.before in
     let s = c1.before.before.before.before in
-    fourth_of_four s.args.text.now s.args.at (field₁ s) (field₂ s) (field₃ s) (field₄ s) s.requires c1.put_word.ensures c2.put-number.ensures c3.put-number2.ensures
+    fourth_of_four s.args.text.now s.args.at (field₁ s) (field₂ s) (field₃ s) (field₄ s) s.requires c1.put_word.ensures c2.put_number.ensures c3.put_number2.ensures
 
-same_length : tie.Need-same-length
+same_length : tie.Need-same_length
 same_length c = search rules
 
 returns : tie.Need-returns
@@ -59,16 +59,16 @@ returns c =
     let c2 = c3.before.before.before.before in
     let c1 = c2.before.before.before.before in
     let s = c1.before.before.before.before in
-    four s.args.text.now s.args.at (field₁ s) (field₂ s) (field₃ s) (field₄ s) c1.put_word.ensures c2.put-number.ensures c3.put-number2.ensures c4.put-number3.ensures
+    four s.args.text.now s.args.at (field₁ s) (field₂ s) (field₃ s) (field₄ s) c1.put_word.ensures c2.put_number.ensures c3.put_number2.ensures c4.put_number3.ensures
 
-pub put-plan-line-spec : {M : Type 1} → statement M
-put-plan-line-spec =
+pub put_plan_line_spec : {M : Type 1} → statement M
+put_plan_line_spec =
     tie.close
     (tie.spec
-    slice-aggregate-put-word
-    put-word-requires
-    put-number-requires
-    put-number-requires-2
-    put-number-requires-3
+    slice-aggregate-put_word
+    put_word-requires
+    put_number-requires
+    put_number-requires-2
+    put_number-requires-3
     same_length
     returns)

@@ -17,28 +17,28 @@ field₂ s = bucket_fields s.args.bucket
 abbrev field₃ : tie.Start → List ℕ
 field₃ s = ended (numeral s.args.cost) newline
 
-slice-aggregate-put-word : tie.Need-slice-aggregate-put-word
-slice-aggregate-put-word c = search rules
+slice-aggregate-put_word : tie.Need-slice-aggregate-put_word
+slice-aggregate-put_word c = search rules
 
-put-word-requires : tie.Need-put-word-requires
-put-word-requires c κs =
+put_word-requires : tie.Need-put_word-requires
+put_word-requires c κs =
     let s = c.before.before.before in
     first_of_three s.args.text.now s.args.at (field₁ s) (field₂ s) (field₃ s) s.requires
 
-put-bucket-requires : tie.Need-put-bucket-requires
-put-bucket-requires c κs =
+put_bucket-requires : tie.Need-put_bucket-requires
+put_bucket-requires c κs =
     let c1 = c.before.before.before in
     let s = c1.before.before.before.before in
     second_of_three s.args.text.now s.args.at (field₁ s) (field₂ s) (field₃ s) s.requires c1.put_word.ensures
 
-put-number-requires : tie.Need-put-number-requires
-put-number-requires c κs =
+put_number-requires : tie.Need-put_number-requires
+put_number-requires c κs =
     let c2 = c.before.before.before in
     let c1 = c2.before.before.before.before in
     let s = c1.before.before.before.before in
-    third_of_three s.args.text.now s.args.at (field₁ s) (field₂ s) (field₃ s) s.requires c1.put_word.ensures c2.put-bucket.ensures
+    third_of_three s.args.text.now s.args.at (field₁ s) (field₂ s) (field₃ s) s.requires c1.put_word.ensures c2.put_bucket.ensures
 
-same_length : tie.Need-same-length
+same_length : tie.Need-same_length
 same_length c = search rules
 
 returns : tie.Need-returns
@@ -47,15 +47,15 @@ returns c =
     let c2 = c3.before.before.before.before in
     let c1 = c2.before.before.before.before in
     let s = c1.before.before.before.before in
-    three s.args.text.now s.args.at (field₁ s) (field₂ s) (field₃ s) c1.put_word.ensures c2.put-bucket.ensures c3.put-number.ensures
+    three s.args.text.now s.args.at (field₁ s) (field₂ s) (field₃ s) c1.put_word.ensures c2.put_bucket.ensures c3.put_number.ensures
 
-pub put-single-line-spec : {M : Type 1} → statement M
-put-single-line-spec =
+pub put_single_line_spec : {M : Type 1} → statement M
+put_single_line_spec =
     tie.close
     (tie.spec
-    slice-aggregate-put-word
-    put-word-requires
-    put-bucket-requires
-    put-number-requires
+    slice-aggregate-put_word
+    put_word-requires
+    put_bucket-requires
+    put_number-requires
     same_length
     returns)

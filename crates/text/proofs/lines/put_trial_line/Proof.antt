@@ -20,28 +20,28 @@ field₂ s = ended (megabits s.args.spare) space
 abbrev field₃ : tie.Start → List ℕ
 field₃ s = ended (megabits (pos s.args.over)) newline
 
-slice-aggregate-put-word : tie.Need-slice-aggregate-put-word
-slice-aggregate-put-word c = search rules
+slice-aggregate-put_word : tie.Need-slice-aggregate-put_word
+slice-aggregate-put_word c = search rules
 
-put-word-requires : tie.Need-put-word-requires
-put-word-requires c κs =
+put_word-requires : tie.Need-put_word-requires
+put_word-requires c κs =
     let s = c.before.before.before in
     first_of_three s.args.text.now s.args.at (field₁ s) (field₂ s) (field₃ s) s.requires
 
-put-figure-requires : tie.Need-put-figure-requires
-put-figure-requires c κs =
+put_figure-requires : tie.Need-put_figure-requires
+put_figure-requires c κs =
     let c1 = c.before.before.before in
     let s = c1.before.before.before.before in
     rw (to_z-of_z s.ranges.spare) (second_of_three s.args.text.now s.args.at (field₁ s) (field₂ s) (field₃ s) s.requires c1.put_word.ensures)
 
-put-tokens-requires : tie.Need-put-tokens-requires
-put-tokens-requires c κs =
+put_tokens-requires : tie.Need-put_tokens-requires
+put_tokens-requires c κs =
     let c2 = c.before.before.before in
     let c1 = c2.before.before.before.before in
     let s = c1.before.before.before.before in
-    third_of_three s.args.text.now s.args.at (field₁ s) (field₂ s) (field₃ s) s.requires c1.put_word.ensures (rw (to_z-of_z s.ranges.spare) at c2.put-figure.ensures)
+    third_of_three s.args.text.now s.args.at (field₁ s) (field₂ s) (field₃ s) s.requires c1.put_word.ensures (rw (to_z-of_z s.ranges.spare) at c2.put_figure.ensures)
 
-same_length : tie.Need-same-length
+same_length : tie.Need-same_length
 same_length c = search rules
 
 returns : tie.Need-returns
@@ -50,15 +50,15 @@ returns c =
     let c2 = c3.before.before.before.before in
     let c1 = c2.before.before.before.before in
     let s = c1.before.before.before.before in
-    three s.args.text.now s.args.at (field₁ s) (field₂ s) (field₃ s) c1.put_word.ensures (rw (to_z-of_z s.ranges.spare) at c2.put-figure.ensures) c3.put-tokens.ensures
+    three s.args.text.now s.args.at (field₁ s) (field₂ s) (field₃ s) c1.put_word.ensures (rw (to_z-of_z s.ranges.spare) at c2.put_figure.ensures) c3.put_tokens.ensures
 
-pub put-trial-line-spec : {M : Type 1} → statement M
-put-trial-line-spec =
+pub put_trial_line_spec : {M : Type 1} → statement M
+put_trial_line_spec =
     tie.close
     (tie.spec
-    slice-aggregate-put-word
-    put-word-requires
-    put-figure-requires
-    put-tokens-requires
+    slice-aggregate-put_word
+    put_word-requires
+    put_figure-requires
+    put_tokens-requires
     same_length
     returns)

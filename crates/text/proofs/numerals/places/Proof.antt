@@ -14,7 +14,7 @@ decreases-loop n count₀ rest₀ count rest = rest
 loop-holds : tie.Need-loop-init invariant-loop decreases-loop
 loop-holds c = none_counted c.args.n (omega (arith, c.ranges.n.fits))
 
-add-count : tie.Need-overflow-add-count invariant-loop decreases-loop
+add-count : tie.Need-overflow_add-count invariant-loop decreases-loop
 add-count c = omega (arith, c.before.loop.invariant.counted)
 
 loop-less : tie.Need-loop-smaller invariant-loop decreases-loop
@@ -26,6 +26,6 @@ loop-again c = one_counted _ _ _ c.before.loop.invariant (omega arith)
 returns : tie.Need-returns invariant-loop decreases-loop
 returns c = all_counted _ _ _ c.before.loop.invariant (omega arith)
 
-pub places-spec : {M : Type 1} → statement M
-places-spec =
+pub places_spec : {M : Type 1} → statement M
+places_spec =
     tie.close (tie.spec invariant-loop decreases-loop loop-holds add-count loop-less loop-again returns)

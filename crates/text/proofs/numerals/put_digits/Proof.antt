@@ -17,14 +17,14 @@ loop-holds c = none_spelled _ _ _ _
 loop-again : tie.Need-loop-preserved invariant-loop decreases-loop
 loop-again c = one_spelled _ _ _ _ _ _ _ _ (omega (arith, c.loop-test.true)) c.before.loop.invariant
 
-same_length : tie.Need-same-length invariant-loop decreases-loop
+same_length : tie.Need-same_length invariant-loop decreases-loop
 same_length c = c.before.loop.invariant.kept
 
 returns : tie.Need-returns invariant-loop decreases-loop
 returns c = all_spelled _ _ _ _ _ _ _ c.loop-test.false c.before.loop.invariant
 
-pub put-digits-spec : {M : Type 1} → statement M
-put-digits-spec =
+pub put_digits_spec : {M : Type 1} → statement M
+put_digits_spec =
     tie.close
     (tie.spec
     invariant-loop

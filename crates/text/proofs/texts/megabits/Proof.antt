@@ -14,44 +14,44 @@ use Rattle.text.proofs.texts.megabits.Tie as tie
 room : (s : tie.Start) → length (megabits s.args.figure) ≤ longest_figure
 room s = figure_short s.args.figure (nat_abs-le s.args.figure s.ranges.figure.sfits)
 
-slice-aggregate-put-megabits : tie.Need-slice-aggregate-put-megabits
-slice-aggregate-put-megabits c = search rules
+slice_aggregate-put_megabits : tie.Need-slice_aggregate-put_megabits
+slice_aggregate-put_megabits c = search rules
 
-put-megabits-requires : tie.Need-put-megabits-requires
-put-megabits-requires c κs =
+put_megabits-requires : tie.Need-put_megabits-requires
+put_megabits-requires c κs =
     let s = c.before.before in
     rw (to_z-of_z s.ranges.figure) (omega (arith, room s))
 
-array-share-prefix-ready : tie.Need-array-share-prefix-ready
-array-share-prefix-ready c =
+array_share_prefix-ready : tie.Need-array_share_prefix-ready
+array_share_prefix-ready c =
     let s = c.before.before.before.before in
-    ready_inside _ _ (room s) _ _ (rw (to_z-of_z s.ranges.figure) at c.before.put-megabits.ensures)
+    ready_inside _ _ (room s) _ _ (rw (to_z-of_z s.ranges.figure) at c.before.put_megabits.ensures)
 
-slice-aggregate-fill : tie.Need-slice-aggregate-fill
-slice-aggregate-fill c =
+slice_aggregate-fill : tie.Need-slice_aggregate-fill
+slice_aggregate-fill c =
     let s = c.before.before.before.before.before in
-    ready_count _ _ (room s) _ _ (rw (to_z-of_z s.ranges.figure) at c.before.before.put-megabits.ensures)
+    ready_count _ _ (room s) _ _ (rw (to_z-of_z s.ranges.figure) at c.before.before.put_megabits.ensures)
 
 fill-requires : tie.Need-fill-requires
 fill-requires c κs = search rules
 
-same_length : tie.Need-same-length
+same_length : tie.Need-same_length
 same_length c = search rules
 
 returns : tie.Need-returns
 returns c =
     let p = c.before.before.before.before.before.before in
     let s = p.before.before.before in
-    ready_fills _ _ (room s) _ _ (rw (to_z-of_z s.ranges.figure) at p.put-megabits.ensures) s.args.text.now _ _ c.before.before.fill.ensures
+    ready_fills _ _ (room s) _ _ (rw (to_z-of_z s.ranges.figure) at p.put_megabits.ensures) s.args.text.now _ _ c.before.before.fill.ensures
 
-pub megabits-spec : {M : Type 1} → statement M
-megabits-spec =
+pub megabits_spec : {M : Type 1} → statement M
+megabits_spec =
     tie.close
     (tie.spec
-    slice-aggregate-put-megabits
-    put-megabits-requires
-    array-share-prefix-ready
-    slice-aggregate-fill
+    slice_aggregate-put_megabits
+    put_megabits-requires
+    array_share_prefix-ready
+    slice_aggregate-fill
     fill-requires
     same_length
     returns)

@@ -16,18 +16,18 @@ weighed : (c : tie.After-places) → let n = c.before in
     9 + c.places.result ≡ length (refusal_line (number_of n.before.before.args.why))
 weighed c =
     let n = c.before in
-    rw (sym n.refusal-number.ensures) (ap (λ k. 9 + k) c.places.ensures ∙ sym (refusal_length n.refusal-number.result))
+    rw (sym n.refusal_number.ensures) (ap (λ k. 9 + k) c.places.ensures ∙ sym (refusal_length n.refusal_number.result))
 
-refusal-number-requires : tie.Need-refusal-number-requires
-refusal-number-requires c κs = search rules
+refusal_number-requires : tie.Need-refusal_number-requires
+refusal_number-requires c κs = search rules
 
-cast-places : tie.Need-overflow-cast-places
+cast-places : tie.Need-overflow_cast-places
 cast-places c = search rules
 
 places-requires : tie.Need-places-requires
 places-requires c κs = search rules
 
-add-if1 : tie.Need-overflow-add-if1
+add-if1 : tie.Need-overflow_add-if1
 add-if1 c = omega (arith, weighed c, refusals_short c.before.before.before.args.why)
 
 returns : tie.Need-returns
@@ -35,12 +35,12 @@ returns c =
     let s = c.before.before.before.before.args in
     too_short (refusal_line (number_of s.why)) s.text.now (omega (arith, weighed c.before, c.if1.true))
 
-put-refusal-line-requires : tie.Need-put-refusal-line-requires
-put-refusal-line-requires c κs =
+put_refusal_line-requires : tie.Need-put_refusal_line-requires
+put_refusal_line-requires c κs =
     let p = c.before.before in
-    rw p.before.refusal-number.ensures (omega (arith, weighed p, c.before.if1.false))
+    rw p.before.refusal_number.ensures (omega (arith, weighed p, c.before.if1.false))
 
-same_length : tie.Need-same-length
+same_length : tie.Need-same_length
 same_length c = search rules
 
 returns-2 : tie.Need-returns-2
@@ -49,17 +49,17 @@ returns-2 c =
     let p = l.before.before.before in
     let s = p.before.before.before.args in
     put_fills (refusal_line (number_of s.why)) s.text.now (omega (arith, weighed p, l.before.before.if1.false)) _ _
-    (rw p.before.refusal-number.ensures at l.put-refusal-line.ensures)
+    (rw p.before.refusal_number.ensures at l.put_refusal_line.ensures)
 
-pub refusal-line-spec : {M : Type 1} → statement M
-refusal-line-spec =
+pub refusal_line_spec : {M : Type 1} → statement M
+refusal_line_spec =
     tie.close
     (tie.spec
-    refusal-number-requires
+    refusal_number-requires
     cast-places
     places-requires
     add-if1
     returns
-    put-refusal-line-requires
+    put_refusal_line-requires
     same_length
     returns-2)

@@ -10,8 +10,8 @@ invariant-loop text length byte₀ byte = byte ≤ 256
 abbrev decreases-loop : tie.decreases-loop
 decreases-loop text length byte₀ byte = 256 - byte
 
-pub each-byte-spec : {M : Type 1} → statement M
-each-byte-spec =
+pub each_byte_spec : {M : Type 1} → statement M
+each_byte_spec =
     tie.close
     (tie.spec
     invariant-loop

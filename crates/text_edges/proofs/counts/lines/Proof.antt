@@ -12,8 +12,8 @@ invariant-loop text₀ i₀ text i = (i ≤ 600) × (1200 ≡ length text)
 abbrev decreases-loop : tie.decreases-loop
 decreases-loop text₀ i₀ text i = 600 - i
 
-pub lines-spec : {M : Type 1} → statement M
-lines-spec =
+pub lines_spec : {M : Type 1} → statement M
+lines_spec =
     tie.close
     (tie.spec
     invariant-loop

@@ -10,8 +10,8 @@ invariant-loop text place₀ place_end place = Unit {0}
 abbrev decreases-loop : tie.decreases-loop
 decreases-loop text place₀ place_end place = place_end - place
 
-pub lengths-spec : {M : Type 1} → statement M
-lengths-spec =
+pub lengths_spec : {M : Type 1} → statement M
+lengths_spec =
     tie.close
     (tie.spec
     invariant-loop

@@ -6,11 +6,11 @@ use lib.Dec.{eqb}
 use Rattle.typed_figures.proofs.figures.factor_stands.Statement.{statement}
 use Rattle.typed_figures.proofs.figures.factor_stands.Tie as tie
 
-factor-in-range-requires : tie.Need-factor-in-range-requires
-factor-in-range-requires c κs = search rules
+factor_in_range-requires : tie.Need-factor_in_range-requires
+factor_in_range-requires c κs = search rules
 
 returns : tie.Need-returns
-returns c = ap (λ (ok : Bool). not (eqb c.before.args.index 4) || ok) c.factor-in-range.ensures
+returns c = ap (λ (ok : Bool). not (eqb c.before.args.index 4) || ok) c.factor_in_range.ensures
 
-pub factor-stands-spec : {M : Type 1} → statement M
-factor-stands-spec = tie.close (tie.spec factor-in-range-requires returns)
+pub factor_stands_spec : {M : Type 1} → statement M
+factor_stands_spec = tie.close (tie.spec factor_in_range-requires returns)

@@ -5,7 +5,7 @@ use Rattle.typed_figures.specs.LimitLaws.{limit_price, limit_parts, limit_demand
 use Rattle.typed_figures.proofs.limits.limit_of.Statement.{statement}
 use Rattle.typed_figures.proofs.limits.limit_of.Tie as tie
 
-cast-result : tie.Need-overflow-cast-result
+cast-result : tie.Need-overflow_cast-result
 cast-result c = search rules
 
 returns : tie.Need-returns
@@ -26,5 +26,5 @@ returns-5 c = limit_parts c.before.before.before.args.index (omega (arith, c.bef
 returns-6 : tie.Need-returns-6
 returns-6 c = limit_demand c.before.before.before.args.index (omega (arith, c.if2.false, c.before.before.match.rest))
 
-pub limit-of-spec : {M : Type 1} → statement M
-limit-of-spec = tie.close (tie.spec cast-result returns returns-2 returns-3 returns-4 returns-5 returns-6)
+pub limit_of_spec : {M : Type 1} → statement M
+limit_of_spec = tie.close (tie.spec cast-result returns returns-2 returns-3 returns-4 returns-5 returns-6)

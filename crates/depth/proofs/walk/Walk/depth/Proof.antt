@@ -44,22 +44,22 @@ module _ (p q cap : ℕ) (w : Walk) where
     unfolding depth_from
     some-opening f B ef eB = rw (h, eB, ef)
 
-cast-opening : tie.Need-overflow-cast-opening
+cast-opening : tie.Need-overflow_cast-opening
 cast-opening c = search rules
 
-cast-opening-2 : tie.Need-overflow-cast-opening-2
+cast-opening-2 : tie.Need-overflow_cast-opening-2
 cast-opening-2 c = search rules
 
-mul-opening : tie.Need-overflow-mul-opening
+mul-opening : tie.Need-overflow_mul-opening
 mul-opening c = omega (arith, needs-product c.before.before)
 
-cast-most : tie.Need-overflow-cast-most
+cast-most : tie.Need-overflow_cast-most
 cast-most c = search rules
 
-cast-most-2 : tie.Need-overflow-cast-most-2
+cast-most-2 : tie.Need-overflow_cast-most-2
 cast-most-2 c = search rules
 
-mul_most : tie.Need-overflow-mul-most
+mul_most : tie.Need-overflow_mul-most
 mul_most c = omega (arith, cap-product c.before.before.before.before)
 
 returns : tie.Need-returns
@@ -79,11 +79,11 @@ fits c =
     let a = c.before.before.before.before.before.before.before.args in
     within a.factor.p a.factor.q a.cap.0 a.self (not-false _ c.if1.false)
 
-cast-rounded-up : tie.Need-overflow-cast-rounded-up
-cast-rounded-up c = omega (arith, fits c.before, cap-product c.before.before.before.before.before.before.before.before)
+cast-rounded_up : tie.Need-overflow_cast-rounded_up
+cast-rounded_up c = omega (arith, fits c.before, cap-product c.before.before.before.before.before.before.before.before)
 
-rounded-up-requires : tie.Need-rounded-up-requires
-rounded-up-requires c κs =
+rounded_up-requires : tie.Need-rounded_up-requires
+rounded_up-requires c κs =
     let s = c.before.before.before.before.before.before.before.before in
     let a = s.args in
     let h = s.requires.0 in
@@ -93,10 +93,10 @@ greater-requires : tie.Need-greater-requires
 greater-requires c κs = search rules
 
 returns-3 : tie.Need-returns-3
-returns-3 c = some-opening _ _ _ _ (not-false _ c.before.before.before.if1.false) _ _ c.before.rounded-up.ensures c.greater.ensures
+returns-3 c = some-opening _ _ _ _ (not-false _ c.before.before.before.if1.false) _ _ c.before.rounded_up.ensures c.greater.ensures
 
-pub depth-spec : {M : Type 1} → statement M
-depth-spec =
+pub depth_spec : {M : Type 1} → statement M
+depth_spec =
     tie.close
     (tie.spec
     cast-opening
@@ -107,7 +107,7 @@ depth-spec =
     mul_most
     returns
     returns-2
-    cast-rounded-up
-    rounded-up-requires
+    cast-rounded_up
+    rounded_up-requires
     greater-requires
     returns-3)

@@ -14,20 +14,20 @@ pushed-by : (r : ℕ) (w : Walk) (d a g l o e n : ℕ) → a ≡ w.sum + d → g
 unfolding pushed
 pushed-by r w d a g l o e n ea eg ee el eo en = cc
 
-add-sum : tie.Need-overflow-add-sum
+add-sum : tie.Need-overflow_add-sum
 add-sum c = search rules
 
-add-gained : tie.Need-overflow-add-gained
+add-gained : tie.Need-overflow_add-gained
 add-gained c = search rules
 
-add-short-by : tie.Need-overflow-add-short-by
-add-short-by c = search rules
+add-short_by : tie.Need-overflow_add-short_by
+add-short_by c = search rules
 
-short-by-requires : tie.Need-short-by-requires
-short-by-requires c κs = search rules
+short_by-requires : tie.Need-short_by-requires
+short_by-requires c κs = search rules
 
-short-by-requires-2 : tie.Need-short-by-requires-2
-short-by-requires-2 c κs = search rules
+short_by-requires-2 : tie.Need-short_by-requires-2
+short_by-requires-2 c κs = search rules
 
 greater-requires : tie.Need-greater-requires
 greater-requires c κs = search rules
@@ -36,7 +36,7 @@ greater-requires-2 : tie.Need-greater-requires-2
 greater-requires-2 c κs = search rules
 
 returns : tie.Need-returns
-returns c = pushed-by _ _ _ _ _ _ _ _ _ refl refl c.before.before.before.short-by.ensures c.before.before.short-by2.ensures c.before.greater.ensures c.greater2.ensures
+returns c = pushed-by _ _ _ _ _ _ _ _ _ refl refl c.before.before.before.short_by.ensures c.before.before.short_by2.ensures c.before.greater.ensures c.greater2.ensures
 
 pub push_spec : {M : Type 1} → statement M
 push_spec =
@@ -44,9 +44,9 @@ push_spec =
     (tie.spec
     add-sum
     add-gained
-    add-short-by
-    short-by-requires
-    short-by-requires-2
+    add-short_by
+    short_by-requires
+    short_by-requires-2
     greater-requires
     greater-requires-2
     returns)

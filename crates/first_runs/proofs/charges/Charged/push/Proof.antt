@@ -15,8 +15,8 @@ use native.Mathlib.Omega.{arith}
 use Rattle.first_runs.proofs.charges.Charged.push.Statement.{statement}
 use Rattle.first_runs.proofs.charges.Charged.push.Tie as tie
 
-depth-after-requires : tie.Need-depth-after-requires
-depth-after-requires c κs =
+depth_after-requires : tie.Need-depth_after-requires
+depth_after-requires c κs =
     let s = c.before.before.before in
     let t = s.requires.0 in (
       t,
@@ -26,7 +26,7 @@ depth-after-requires c κs =
       ),
     )
 
-enum_told : tie.Need-enum-told
+enum_told : tie.Need-enum_told
 enum_told c = search rules
 
 returns : tie.Need-returns
@@ -34,20 +34,20 @@ returns c =
     let d = c.before.before in
     record {
       walked = d.before.push.ensures;
-      charged = ap (charge_at _ _) (sym (ap depth_says c.enum_told.given.1) ∙ d.depth-after.ensures);
+      charged = ap (charge_at _ _) (sym (ap depth_says c.enum_told.given.1) ∙ d.depth_after.ensures);
       found = λ m. absurd (omega arith);
     }
 
 -- what is found, and that it is inside the cap
 found : (c : tie.After-depth) → let d = c.before.before in
     figures c.depth.given.0.0.0 ≡ walk_depth d.before.before.before.before.args.tariff d.before.push.result
-found c = sym (ap depth_says c.depth.given.1) ∙ c.before.before.depth-after.ensures
+found c = sym (ap depth_says c.depth.given.1) ∙ c.before.before.depth_after.ensures
 
 inside : (c : tie.After-depth) → c.depth.given.0.0.0 ≤ c.before.before.before.before.before.before.args.tariff.depth_cap.0
 inside c = walk-within _ _ _ _ c.before.before.before.before.before.before.requires.0.factor.some (sym (found c))
 
-charge-of-requires : tie.Need-charge-of-requires
-charge-of-requires c κs =
+charge_of-requires : tie.Need-charge_of-requires
+charge_of-requires c κs =
     let d = c.before in
     let s = d.before.before.before.before.before.before in
     (s.requires.0, in_range s.args.tariff s.requires.0 s.args.low.0 _ s.requires.1.1.0 (inside d))
@@ -57,7 +57,7 @@ returns-2 c =
     let d = c.before.before in
     record {
       walked = d.before.before.before.push.ensures;
-      charged = c.charge-of.ensures ∙ ap (charge_at _ _) (found d);
+      charged = c.charge_of.ensures ∙ ap (charge_at _ _) (found d);
       found = λ m. sym (found d);
     }
 
@@ -66,9 +66,9 @@ push_spec =
     tie.close
     (tie.spec
     (λ c κs. search rules)
-    depth-after-requires
+    depth_after-requires
     (λ c. search rules)
     enum_told
     returns
-    charge-of-requires
+    charge_of-requires
     returns-2)

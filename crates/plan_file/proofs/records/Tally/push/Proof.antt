@@ -4,17 +4,17 @@ use borrow.Author.Rules.{rules}
 use Rattle.plan_file.proofs.records.Tally.push.Statement.{statement}
 use Rattle.plan_file.proofs.records.Tally.push.Tie as tie
 
-record-in-range-requires : tie.Need-record-in-range-requires
-record-in-range-requires c κs = search rules
+record_in_range-requires : tie.Need-record_in_range-requires
+record_in_range-requires c κs = search rules
 
-cast-t5 : tie.Need-overflow-cast-t5
+cast-t5 : tie.Need-overflow_cast-t5
 cast-t5 c = search rules
 
-add-t6 : tie.Need-overflow-add-t6
+add-t6 : tie.Need-overflow_add-t6
 add-t6 c = search rules
 
 returns : tie.Need-returns
-returns c = (rw c.before.before.before.record-in-range.ensures, omega (arith, c.before.struct-known2.given))
+returns c = (rw c.before.before.before.record_in_range.ensures, omega (arith, c.before.struct_known2.given))
 
 pub push_spec : {M : Type 1} → statement M
-push_spec = tie.close (tie.spec record-in-range-requires cast-t5 add-t6 returns)
+push_spec = tie.close (tie.spec record_in_range-requires cast-t5 add-t6 returns)
