@@ -1,0 +1,80 @@
+-- Up to the last period gone through no stretch is short, and `need` is the ending of the walk from period 2 to it.
+use Prim.Native.Nat.{ℕ, ◌+◌, ◌-◌, ◌≤◌, ◌<◌}
+use native.Mathlib.Omega.{arith}
+use native.Mathlib.Numerals.{add-one}
+use mathlib.Core.Path.{◌≡◌, refl, sym, ap, ◌∙◌}
+use mathlib.Core.Bool.{Bool}
+use mathlib.Core.List.{List, [], ◌∷◌, ◌++◌}
+use borrow.Author.Rules.{rules}
+use borrow.Author.Tests.{lt-ltb, le-ltb}
+use lib.ListN.{length, get_or, take, drop}
+use lib.Seq.{drop-append-le, length-take-le, slice, slice_empty, take-suc}
+use Rattle.terms.specs.Answer.{Answer, figures, figure_or}
+use Rattle.depth.specs.declared.walk.Walk.{Walk}
+use Rattle.depth.specs.Depth.{first_from}
+use Rattle.depth.specs.SearchLaws.{from_failed, from_none, from-passed}
+use Rattle.depth.specs.Walk.{pushed, walk_of}
+use Rattle.depth.specs.WalkLaws.{walk_more}
+use Rattle.causes.specs.Cause.{is_found, stretch_end, stretch_start}
+use Rattle.causes.specs.PeriodNeedLaws.{stretch-found}
+use Rattle.causes.proofs.searches.stretch_end.Invariants.{Ended}
+use Rattle.causes.proofs.searches.stretch_end.Goals as goal
+
+start : (r C : ℕ) (ds : List ℕ) → 1 ≤ length ds → Ended r C ds 0 1
+unfolding walk_of
+start r C ds h = record { some = omega arith; inside = h; ends = sym (ap (λ (es : List ℕ). (walk_of r es).ending) (slice_empty 1 ds)); enough = omega arith; so_far = refl }
+
+module _ {r C : ℕ} {ds : List ℕ} {need last : ℕ} (k : Ended r C ds need last) (l : last < length ds) where
+  abbrev d : ℕ
+  d = get_or ds last 0
+
+  more : slice 1 (last + 1) ds ≡ slice 1 last ds ++ (d ∷ [])
+  more =
+      let e : take (last + 1) ds ≡ take last ds ++ (d ∷ []) = rw (add-one last) (take-suc ds last 0 l) in
+      ap (drop 1) e ∙ drop-append-le 1 (take last ds) (d ∷ []) (omega (arith, k.some, length-take-le last ds k.inside))
+
+  ends' : (new : ℕ) → new ≡ need + d - r → new ≡ (walk_of r (slice 1 (last + 1) ds)).ending
+  unfolding pushed
+  ends' new e = e ∙ ap (λ (n : ℕ). n + d - r) k.ends ∙ sym (ap (λ (w : Walk). w.ending) (ap (walk_of r) more ∙ walk_more r (slice 1 last ds) d))
+
+  abbrev test : ℕ → Bool
+  test v = is_found (stretch_start r C ds v)
+
+  found : (new : ℕ) → new ≡ need + d - r → C < new → stretch_end r C ds ≡ figures (last + 1)
+  found new e h =
+      let t = stretch-found r C ds (last + 1) (omega arith) in
+      k.so_far ∙ from-passed test (last + 1) (length ds - last) (omega arith) (t ∙ lt-ltb C _ (omega (arith, ends' new e)))
+
+  next : (new : ℕ) → new ≡ need + d - r → new ≤ C → Ended r C ds new (last + 1)
+  next new e h =
+      let t = stretch-found r C ds (last + 1) (omega arith) in
+      record {
+        some = omega arith;
+        inside = omega arith;
+        ends = ends' new e;
+        enough = h;
+        so_far = k.so_far ∙ from_failed test (last + 1) (length ds - last) (length ds - (last + 1)) (omega arith) (t ∙ le-ltb C _ (omega (arith, ends' new e)));
+      }
+
+end : {r C : ℕ} {ds : List ℕ} {need last : ℕ} → Ended r C ds need last → length ds ≤ last → last ≡ figure_or (stretch_end r C ds) (length ds)
+end {r} {C} {ds} {last = last} k l =
+    let e : last ≡ length ds = omega (arith, k.inside) in
+    e ∙ sym (ap (λ (a : Answer ℕ). figure_or a (length ds)) (k.so_far ∙ from_none (λ v. is_found (stretch_start r C ds v)) (last + 1) (length ds - last) (omega arith)))
+
+pub loop-last-init : goal.loop-last-init
+loop-last-init c = start _ _ _ c.requires.periods_range.some
+
+pub overflow_cast-trace : goal.overflow_cast-trace
+overflow_cast-trace c = omega (arith, c.shared_slice_known-in-loop-last-1.given c.loop-last.last)
+
+pub overflow_add-need : goal.overflow_add-need
+overflow_add-need c = omega (arith, c.shared_slice_known-in-loop-last-1.given c.loop-last.last, c.loop-last.invariant.enough, c.requires.bucket_range.depths)
+
+pub returns-then-bucket-need : goal.returns-then-bucket-need
+returns-then-bucket-need c = sym (ap (λ (a : Answer ℕ). figure_or a (length c.args.trace.now)) (found c.loop-last.invariant c.loop-last-test.true _ c.short_by-need.ensures c.if-bucket-need.true))
+
+pub loop-last-preserved : goal.loop-last-preserved
+loop-last-preserved c = next c.loop-last.invariant c.loop-last-test.true _ c.short_by-need.ensures c.if-bucket-need.false
+
+pub returns : goal.returns
+returns c = end c.loop-last.invariant c.loop-last-test.false

@@ -1,0 +1,22 @@
+-- After each turn the value is the number of the bytes from the place reached to the end; it has as many bytes.
+use Prim.Native.Nat.{ℕ, suc, ◌+◌, ◌-◌, ◌*◌, ◌^◌, ◌≤◌, ◌<◌}
+use native.Mathlib.Omega.{arith}
+use native.Mathlib.Nat.{le_trans, zero-lt-suc, one-le-pow, pow-le-pow_right, pow-suc, mul-le-mul, le_refl}
+use mathlib.Core.Path.{◌≡◌, sym, ap, subst, ◌∙◌}
+use mathlib.Core.List.{List}
+use borrow.Author.Rules.{rules}
+use lib.ListN.{length, get_or}
+use Rattle.encoding.specs.Number.{value_of, number_at}
+use Rattle.encoding.specs.NumberLaws.{number_next}
+use Rattle.encoding.proofs.numbers.number_at.Given as goal
+
+pub record Reading (bs : List ℕ) (at width value k : ℕ) : Type 0 where
+  pub few : k ≤ width
+  pub is : value ≡ number_at (width - k) bs (at + k)
+  pub below : value < 256 ^ (width - k)
+
+abbrev pub invariant-loop-k : goal.invariant-loop-k
+invariant-loop-k l = Reading l.bytes l.at l.width l.value l.k
+
+abbrev pub decreases-loop-k : goal.decreases-loop-k
+decreases-loop-k l = l.k

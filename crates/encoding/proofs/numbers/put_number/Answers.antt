@@ -1,0 +1,32 @@
+-- The bytes still to be stored, stored from the place reached on, give the whole.
+use Prim.Native.Nat.{ℕ, suc, ◌+◌, ◌-◌, ◌/◌, ◌%◌, ◌≤◌, ◌<◌}
+use native.Mathlib.Omega.{arith}
+use mathlib.Core.Path.{◌≡◌, ap, subst}
+use mathlib.Core.List.{List}
+use borrow.Author.Rules.{rules}
+use lib.ListN.{set}
+use lib.Seq.{sets}
+use Rattle.encoding.specs.Number.{bytes_of}
+use Rattle.encoding.specs.StoreLaws.{Storing, none_stored, one_stored, all_stored}
+use Rattle.encoding.proofs.numbers.put_number.Invariants.{Writing, begin, next, end}
+use Rattle.encoding.proofs.numbers.put_number.Goals as goal
+
+pub loop-k-init : goal.loop-k-init
+loop-k-init c = begin _ _ _ _
+
+pub overflow_add-bytes : goal.overflow_add-bytes
+overflow_add-bytes c = omega (arith, c.requires, c.loop-k-test.true)
+
+pub bounds-bytes-at : goal.bounds-bytes-at
+bounds-bytes-at c =
+    let e = c.loop-k.invariant.same in
+    omega (arith, c.requires, c.loop-k-test.true)
+
+pub loop-k-preserved : goal.loop-k-preserved
+loop-k-preserved c = next _ _ _ _ _ _ _ c.loop-k.invariant c.loop-k-test.true
+
+pub shape_of-bytes : goal.shape_of-bytes
+shape_of-bytes c = c.loop-k.invariant.same
+
+pub returns : goal.returns
+returns c = end _ _ _ _ _ _ _ c.loop-k.invariant c.loop-k-test.false

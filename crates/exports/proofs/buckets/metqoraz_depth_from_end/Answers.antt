@@ -1,0 +1,8 @@
+-- The answer of the call below, as one number.
+use mathlib.Core.Path.{ap, ◌∙◌}
+use Rattle.exports.specs.Answers.{coded}
+use borrow.Author.Rules.{rules}
+use Rattle.exports.proofs.buckets.metqoraz_depth_from_end.Goals as goal
+
+pub returns : goal.returns
+returns c = c.coded_depth.ensures ∙ ap coded c.depth_from_end_for.ensures

@@ -1,0 +1,65 @@
+-- One figure of each record from the one reached on is left to be stored in each list.
+use Prim.Native.Nat.{ℕ, ◌-◌, ◌≤◌}
+use native.Mathlib.Omega.{arith}
+use mathlib.Core.List.{List}
+use borrow.Author.Rules.{rules}
+use lib.ListN.{length}
+use Rattle.terms.specs.Records.{Cutting, run_length, run_rate, run_depth}
+use Rattle.encoding.specs.StoreLaws.{none_stored}
+use Rattle.exports.specs.ListLaws.{Rooms, rooms, Stored, figure_stored, figures-stored}
+use Rattle.exports.proofs.figure_lists.store_figures.Invariants.{Storing}
+use Rattle.exports.proofs.figure_lists.store_figures.Goals as goal
+
+pub loop-i-init : goal.loop-i-init
+loop-i-init c = record { runs-stored = none_stored _ 0 _; rates-stored = none_stored _ 0 _; depths-stored = none_stored _ 0 _ }
+
+pub bounds-records-i : goal.bounds-records-i
+bounds-records-i c = omega (arith, c.loop-i-test.true, c.requires.count_le_trace_limit)
+
+pub bounds-runs-i : goal.bounds-runs-i
+bounds-runs-i c =
+    let room : let a = c.args in Rooms a.count a.runs.now a.rates.now a.depths.now = let a = c.args in rooms a.count a.runs.now a.rates.now a.depths.now c.requires.count_bound in
+    omega (arith, c.loop-i-test.true, (room).first, c.loop-i.invariant.runs-stored.same)
+
+pub bounds-rates-i : goal.bounds-rates-i
+bounds-rates-i c =
+    let room : let a = c.args in Rooms a.count a.runs.now a.rates.now a.depths.now = let a = c.args in rooms a.count a.runs.now a.rates.now a.depths.now c.requires.count_bound in
+    omega (arith, c.loop-i-test.true, (room).second, c.loop-i.invariant.rates-stored.same)
+
+pub bounds-depths-i : goal.bounds-depths-i
+bounds-depths-i c =
+    let room : let a = c.args in Rooms a.count a.runs.now a.rates.now a.depths.now = let a = c.args in rooms a.count a.runs.now a.rates.now a.depths.now c.requires.count_bound in
+    omega (arith, c.loop-i-test.true, (room).third, c.loop-i.invariant.depths-stored.same)
+
+pub loop-i-preserved : goal.loop-i-preserved
+loop-i-preserved c =
+    let fits : c.args.count ≤ length c.args.t1 = omega (arith, c.requires.count_le_trace_limit, c.well_formed.0.1.0.1) in
+    let w = c.loop-i.invariant in
+    let l = fits in
+    record {
+      runs-stored = figure_stored _ _ run_length w.runs-stored l c.loop-i-test.true;
+      rates-stored = figure_stored _ _ run_rate w.rates-stored l c.loop-i-test.true;
+      depths-stored = figure_stored _ _ run_depth w.depths-stored l c.loop-i-test.true;
+    }
+
+pub shape_of-runs : goal.shape_of-runs
+shape_of-runs c = c.loop-i.invariant.runs-stored.same
+
+pub shape_of-rates : goal.shape_of-rates
+shape_of-rates c = c.loop-i.invariant.rates-stored.same
+
+pub shape_of-depths : goal.shape_of-depths
+shape_of-depths c = c.loop-i.invariant.depths-stored.same
+
+pub returns : goal.returns
+returns c =
+    let fits : c.args.count ≤ length c.args.t1 = omega (arith, c.requires.count_le_trace_limit, c.well_formed.0.1.0.1) in
+    let room : let a = c.args in Rooms a.count a.runs.now a.rates.now a.depths.now = let a = c.args in rooms a.count a.runs.now a.rates.now a.depths.now c.requires.count_bound in
+    let w = c.loop-i.invariant in
+    let h = c.loop-i-test.false in (
+      figures-stored _ _ run_length w.runs-stored (fits) h (room).first,
+      (
+        figures-stored _ _ run_rate w.rates-stored (fits) h (room).second,
+        figures-stored _ _ run_depth w.depths-stored (fits) h (room).third,
+      ),
+    )

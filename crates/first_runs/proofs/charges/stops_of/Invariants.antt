@@ -1,0 +1,25 @@
+-- From the last entry to the first: each is the greatest of the charges found from there on.
+use Prim.Native.Nat.{ℕ, suc, ◌+◌, ◌-◌, ◌*◌, ◌≤◌, ◌<◌, max}
+use Rattle.first_runs.specs.Charge.{Stops, StopsAt}
+use Rattle.first_runs.specs.ChargeLaws.{Stopping, stopping_start, stopping_more, stopping_end}
+use Rattle.single.specs.Cost.{billed, cost_at}
+use Rattle.terms.specs.declared.Tariff.{Tariff}
+use Rattle.terms.specs.Limits.{trace_limit}
+use borrow.Author.Rules.{rules}
+use lib.ListN.{length, get_or, set, replicate, length-set}
+use mathlib.Core.List.{List}
+use mathlib.Core.Path.{◌≡◌, refl, sym, subst, ◌∙◌}
+use native.Mathlib.Nat.{le_refl}
+use native.Mathlib.Omega.{arith}
+use Rattle.first_runs.proofs.charges.stops_of.Given as goal
+
+pub record Filling (t : Tariff) (known : ℕ) (costs stops : List ℕ) (charge periods : ℕ) : Type 0 where
+  pub inside : periods ≤ length costs
+  pub whole : 512 ≡ length stops
+  pub stopping : Stopping t known costs periods charge stops
+
+abbrev pub invariant-loop-periods : goal.invariant-loop-periods
+invariant-loop-periods l = Filling l.tariff l.known l.costs l.stops l.charge l.periods
+
+abbrev pub decreases-loop-periods : goal.decreases-loop-periods
+decreases-loop-periods l = l.periods

@@ -1,0 +1,23 @@
+-- The demands from the place reached on are left to be stored.
+use Prim.Native.Nat.{ℕ, ◌+◌, ◌-◌, ◌*◌, ◌/◌, ◌≤◌, ◌<◌}
+use native.Mathlib.Omega.{arith}
+use mathlib.Core.Path.{◌≡◌, refl, sym, ap, subst, ◌∙◌}
+use mathlib.Core.List.{List, ◌∷◌}
+use borrow.Author.Rules.{rules}
+use lib.ListN.{length, set}
+use lib.Seq.{sets}
+use Rattle.encoding.specs.Number.{items_at, number_at}
+use Rattle.order_file.specs.OrderRules.{length-demands}
+use Rattle.order_file.specs.Order.{demands_in}
+use Rattle.encoding.specs.StoreLaws.{Storing, none_stored, one_stored, all_stored, items_next, items_none}
+use Rattle.order_file.proofs.traces.load_demands.Given as goal
+
+pub record Loading (part old new : List ℕ) (at i : ℕ) : Type 0 where
+  pub place : at ≡ 2 * i
+  pub stored : Storing old 0 (demands_in part) new i (items_at (number_at 2 part) 2 (length part / 2 - i) at)
+
+abbrev pub invariant-loop-i : goal.invariant-loop-i
+invariant-loop-i l = Loading l.part l.initial.demands l.demands l.at l.i
+
+abbrev pub decreases-loop-i : goal.decreases-loop-i
+decreases-loop-i l = l.periods - l.i

@@ -1,0 +1,6 @@
+-- The records are blank ones.
+use borrow.Author.Rules.{rules}
+use Rattle.planning.proofs.planned_orders.refused.Goals as goal
+
+pub returns : goal.returns
+returns c = rw c.blank_records-records.ensures

@@ -1,0 +1,81 @@
+-- Each refusal is the first rule that its test finds broken; past the tests the search gives the answer.
+use Prim.Native.Nat.{ℕ}
+use mathlib.Core.Path.{◌≡◌, subst}
+use mathlib.Core.Bool.{true, false}
+use mathlib.Core.List.{List}
+use borrow.Author.Rules.{rules}
+use borrow.Author.Tests.{le-leb, lt-leb}
+use lib.Dec.{leb}
+use lib.ListN.{length}
+use Rattle.terms.specs.declared.Tariff.{Tariff}
+use Rattle.terms.specs.Answer.{Answer, refused}
+use Rattle.terms.specs.Bools.{check_passed, check_failed}
+use Rattle.terms.specs.Ranges.{periods_ok, tariff_ok}
+use Rattle.terms.specs.RangeLaws.{periods_range, tariff_range}
+use Rattle.terms.specs.Records.{Cutting}
+use Rattle.series.specs.Series.{cheapest_cut, plan_of, series_of, series_says}
+use Rattle.record_list.specs.Held.{held}
+use Rattle.series.specs.CallLaws.{refusal}
+use mathlib.Core.Path.{sym, ◌∙◌}
+use Rattle.series.proofs.planner.plan_series.Goals as goal
+
+module _ (t : Tariff) (room : ℕ) (ds : List ℕ) where
+  abbrev answer : Answer Cutting
+  answer = series_of t room ds
+
+  no-periods : periods_ok (length ds) ≡ false → answer ≡ refused 3
+  unfolding series_of
+  no-periods h = rw h
+
+  module _ (h : periods_ok (length ds) ≡ true) where
+    no-tariff : tariff_ok t ≡ false → answer ≡ refused 5
+    unfolding series_of
+    no-tariff k = rw (h, k)
+
+    module _ (k : tariff_ok t ≡ true) where
+      no_room : leb (length ds) room ≡ false → answer ≡ refused 6
+      unfolding series_of
+      no_room l = rw (h, k, l)
+
+      past-tests : leb (length ds) room ≡ true → cheapest_cut t ds ≡ answer
+      unfolding series_of
+      past-tests l = rw (h, k, l)
+
+pub returns-then-not-periods_in_range : goal.returns-then-not-periods_in_range
+returns-then-not-periods_in_range c =
+    let s = c.args in
+    let all = refusal _ _ _ _ c.refused.ensures (no-periods s.tariff s.room s.trace.now ((sym c.periods_in_range.ensures ∙ c.if-not-periods_in_range.true))) in
+    record { answer_value = all.0; records_value = all.1 }
+
+pub returns-then-not-tariff_in_range : goal.returns-then-not-tariff_in_range
+returns-then-not-tariff_in_range c =
+    let periods : periods_ok (length c.args.trace.now) ≡ true = (sym c.periods_in_range.ensures ∙ c.if-not-periods_in_range.false) in
+    let s = c.args in
+    let all = refusal _ _ _ _ c.refused-then-not-tariff_in_range.ensures
+    (no-tariff s.tariff s.room s.trace.now (periods) ((sym c.tariff_in_range.ensures ∙ c.if-not-tariff_in_range.true))) in
+    record { answer_value = all.0; records_value = all.1 }
+
+pub returns-then-room-periods : goal.returns-then-room-periods
+returns-then-room-periods c =
+    let periods : periods_ok (length c.args.trace.now) ≡ true = (sym c.periods_in_range.ensures ∙ c.if-not-periods_in_range.false) in
+    let figures : tariff_ok c.args.tariff ≡ true = (sym c.tariff_in_range.ensures ∙ c.if-not-tariff_in_range.false) in
+    let s = c.args in
+    let all = refusal _ _ _ _ c.refused-then-room-periods.ensures
+    (no_room s.tariff s.room s.trace.now (periods) (figures) (lt-leb _ _ c.if-room-periods.true)) in
+    record { answer_value = all.0; records_value = all.1 }
+
+pub cheapest-requires : goal.cheapest-requires
+cheapest-requires c =
+    let periods : periods_ok (length c.args.trace.now) ≡ true = (sym c.periods_in_range.ensures ∙ c.if-not-periods_in_range.false) in
+    let figures : tariff_ok c.args.tariff ≡ true = (sym c.tariff_in_range.ensures ∙ c.if-not-tariff_in_range.false) in
+    record { periods_range = periods_range _ (periods); tariff_range = tariff_range _ (figures) }
+
+pub returns : goal.returns
+returns c =
+    let periods : periods_ok (length c.args.trace.now) ≡ true = (sym c.periods_in_range.ensures ∙ c.if-not-periods_in_range.false) in
+    let figures : tariff_ok c.args.tariff ≡ true = (sym c.tariff_in_range.ensures ∙ c.if-not-tariff_in_range.false) in
+    let s = c.args in
+    let all = subst (λ (a : Answer Cutting). (series_says c.cheapest.result.answer ≡ plan_of s.tariff a) × (c.cheapest.result.records ≡ held a))
+    (past-tests s.tariff s.room s.trace.now (periods) (figures) (le-leb _ _ c.if-room-periods.false))
+    c.cheapest.ensures in
+    record { answer_value = all.0; records_value = all.1 }

@@ -1,0 +1,28 @@
+-- Each return is a case of the definition: the order that is read, and the trial for the demands spread.
+use Prim.Native.Nat.{◌≤◌}
+use native.Mathlib.Omega.{arith}
+use mathlib.Core.Path.{sym, ap, ◌∙◌}
+use lib.ListN.{length}
+use lib.Seq.{length-take-le}
+use Rattle.terms.specs.AnswerLaws.{then_figures, then_refused}
+use Rattle.order_file.specs.Order.{order_says}
+use Rattle.order_file.specs.OrderedLaws.{demands-inside, order-read, order_unread}
+use Rattle.text.specs.FittedLaws.{long}
+use borrow.Author.Rules.{rules}
+use Rattle.services.proofs.figures.trial_for.Goals as goal
+
+pub returns-in-Refused : goal.returns-in-Refused
+returns-in-Refused c = then_refused _ _ (order_unread _ _ _ _ c.spread_order.ensures (long 512) _ (ap order_says c.in-Refused.is))
+
+pub slice_bounds-demands-end : goal.slice_bounds-demands-end
+slice_bounds-demands-end c =
+    let inside : c.in-Read.x.periods ≤ length c.spread_order.new.1.0 = demands-inside _ _ _ _ c.spread_order.ensures _ (ap order_says c.in-Read.is) in
+    omega (arith, inside)
+
+pub slice_bounds-trial-end : goal.slice_bounds-trial-end
+slice_bounds-trial-end c =
+    let inside : c.in-Read.x.periods ≤ length c.spread_order.new.1.0 = demands-inside _ _ _ _ c.spread_order.ensures _ (ap order_says c.in-Read.is) in
+    sym (length-take-le _ _ (omega (arith, inside)))
+
+pub returns : goal.returns
+returns c = c.trial.ensures ∙ then_figures _ _ (order-read _ _ _ _ c.spread_order.ensures (long 512) _ (ap order_says c.in-Read.is))

@@ -1,0 +1,11 @@
+-- The digits are stored from the last to the first; those that are left, stored too, give the whole.
+use native.Mathlib.Omega.{arith}
+use borrow.Author.Rules.{rules}
+use Rattle.text.specs.NumeralLaws.{Spelling, none_spelled, one_spelled, all_spelled}
+use Rattle.text.proofs.numerals.put_digits.Given as goal
+
+abbrev pub invariant-loop-k : goal.invariant-loop-k
+invariant-loop-k l = Spelling l.initial.text l.at l.count l.n l.text l.k l.rest
+
+abbrev pub decreases-loop-k : goal.decreases-loop-k
+decreases-loop-k l = l.k
