@@ -52,7 +52,7 @@ step-period-requires c = record { bucket_range = c.requires.fresh_range.bucket; 
 
 pub overflow_add-over : goal.overflow_add-over
 overflow_add-over c =
-    let loop-again = walking_step c.loop-i.invariant c.requires.fresh_range.bucket.depths c.loop-i-test.true (omega (arith, c.shared_slice_known-in-loop-i-1.given c.loop-i.i)) c.step-period.ensures (back c.lesser-spare.type_inv ∙ c.lesser-spare.ensures ∙ ap (min_z (to_z w64 c.loop-i.spare)) (back c.to_spare.type_inv ∙ c.to_spare.ensures)) in
+    let loop-again = walking_step c.loop-i.invariant c.requires.fresh_range.bucket.depths c.loop-i-test.true (omega (arith, c.shared_slice_known-in-loop-i-1.given c.loop-i.i)) c.step-period.ensures (back c.lesser-spare.type_inv ∙ c.lesser-spare.ensures ∙ ap (min_z (to_z w64 c.loop-i.spare-bits)) (back c.to_spare.type_inv ∙ c.to_spare.ensures)) in
     omega (arith, (loop-again).small)
 
 pub loop-i-preserved : goal.loop-i-preserved
@@ -60,7 +60,7 @@ loop-i-preserved c =
     walking_step c.loop-i.invariant c.requires.fresh_range.bucket.depths c.loop-i-test.true
     (omega (arith, c.shared_slice_known-in-loop-i-1.given c.loop-i.i))
     c.step-period.ensures
-    (back c.lesser-spare.type_inv ∙ c.lesser-spare.ensures ∙ ap (min_z (to_z w64 c.loop-i.spare)) (back c.to_spare.type_inv ∙ c.to_spare.ensures))
+    (back c.lesser-spare.type_inv ∙ c.lesser-spare.ensures ∙ ap (min_z (to_z w64 c.loop-i.spare-bits)) (back c.to_spare.type_inv ∙ c.to_spare.ensures))
 
 pub returns : goal.returns
 returns c =

@@ -22,7 +22,7 @@ use Rattle.bucket.proofs.Walking.{Walking, walking_start, walking_step, over_end
 use Rattle.bucket.proofs.trials.figures.Given as goal
 
 abbrev pub invariant-loop-i : goal.invariant-loop-i
-invariant-loop-i l = Walking l.bucket.rate.0 l.bucket.depth.0 l.initial.held l.trace l.held (to_z w64 l.spare) l.over l.i
+invariant-loop-i l = Walking l.bucket.rate.0 l.bucket.depth.0 l.initial.held l.trace l.held l.spare l.over l.i
 
 abbrev pub decreases-loop-i : goal.decreases-loop-i
 decreases-loop-i l = length l.trace - l.i

@@ -12,10 +12,10 @@ pub put_number-thousandths-requires : goal.put_number-thousandths-requires
 put_number-thousandths-requires c = whole_room c.args.text.now c.args.at c.args.figure c.requires _ (to_z-of_z c.ranges.figure) _ c.magnitude-kilobits.ensures _ _ c.put_sign-whole.ensures
 
 pub put_digits-requires : goal.put_digits-requires
-put_digits-requires c = places-room c.args.text.now c.args.at c.args.figure c.requires _ (to_z-of_z c.LOOK.fits.figure) _ c.magnitude-kilobits.ensures _ _ c.put_sign-whole.ensures _ _ c.put_number-thousandths.ensures
+put_digits-requires c = places-room c.args.text.now c.args.at c.args.figure c.requires _ (to_z-of_z c.ranges.figure) _ c.magnitude-kilobits.ensures _ _ c.put_sign-whole.ensures _ _ c.put_number-thousandths.ensures
 
 pub overflow_add-result : goal.overflow_add-result
-overflow_add-result c = omega (arith, places-room c.args.text.now c.args.at c.args.figure c.requires _ (to_z-of_z c.LOOK.fits.figure) _ c.magnitude-kilobits.ensures _ _ c.put_sign-whole.ensures _ _ c.put_number-thousandths.ensures)
+overflow_add-result c = omega (arith, places-room c.args.text.now c.args.at c.args.figure c.requires _ (to_z-of_z c.ranges.figure) _ c.magnitude-kilobits.ensures _ _ c.put_sign-whole.ensures _ _ c.put_number-thousandths.ensures)
 
 pub returns : goal.returns
-returns c = puts_megabits _ _ c.args.figure c.requires _ (to_z-of_z c.LOOK.fits.figure) _ c.magnitude-kilobits.ensures _ _ c.put_sign-whole.ensures _ _ c.put_number-thousandths.ensures _ c.put_digits.ensures
+returns c = puts_megabits _ _ c.args.figure c.requires _ (to_z-of_z c.ranges.figure) _ c.magnitude-kilobits.ensures _ _ c.put_sign-whole.ensures _ _ c.put_number-thousandths.ensures _ c.put_digits.ensures
