@@ -43,22 +43,22 @@ pub loop-periods-init : goal.loop-periods-init
 loop-periods-init c = begin _ _ _
 
 pub bounds-costs-i : goal.bounds-costs-i
-bounds-costs-i c = omega (arith, c.loop-periods.inv.inside, c.loop-periods-test.taken)
+bounds-costs-i c = omega (arith, c.loop-periods.invariant.inside, c.loop-periods-test.true)
 
 pub overflow_add-tariff : goal.overflow_add-tariff
-overflow_add-tariff c = omega (arith, c.requires.cost_range.each (c.loop-periods.periods - 1) (omega (arith, c.loop-periods.inv.inside, c.loop-periods-test.taken)), c.requires.tariff_range.fees)
+overflow_add-tariff c = omega (arith, c.requires.cost_range.each (c.loop-periods.periods - 1) (omega (arith, c.loop-periods.invariant.inside, c.loop-periods-test.true)), c.requires.tariff_range.fees)
 
 pub stop_at-stop-requires : goal.stop_at-stop-requires
-stop_at-stop-requires c = record { le_periods = omega (arith, c.billed_periods-billed.ensures, c.loop-periods-test.taken); known_le_unpriced = c.requires.known_le_unpriced }
+stop_at-stop-requires c = record { le_periods = omega (arith, c.billed_periods-billed.ensures, c.loop-periods-test.true); known_le_unpriced = c.requires.known_le_unpriced }
 
 pub bounds-stops-i : goal.bounds-stops-i
-bounds-stops-i c = omega (arith, c.loop-periods.inv.inside, c.requires.cost_range.few, c.loop-periods-test.taken)
+bounds-stops-i c = omega (arith, c.loop-periods.invariant.inside, c.requires.cost_range.few, c.loop-periods-test.true)
 
 pub loop-periods-smaller : goal.loop-periods-smaller
-loop-periods-smaller c = omega (arith, c.loop-periods-test.taken)
+loop-periods-smaller c = omega (arith, c.loop-periods-test.true)
 
 pub loop-periods-preserved : goal.loop-periods-preserved
-loop-periods-preserved c = step _ _ _ _ _ _ c.loop-periods.inv c.requires.cost_range.few c.loop-periods-test.taken _ _ _ c.billed_periods-billed.ensures c.stop_at-stop.ensures c.greater_charge-charge.ensures
+loop-periods-preserved c = step _ _ _ _ _ _ c.loop-periods.invariant c.requires.cost_range.few c.loop-periods-test.true _ _ _ c.billed_periods-billed.ensures c.stop_at-stop.ensures c.greater_charge-charge.ensures
 
 pub returns : goal.returns
 returns c = end _ _ _ _ _ _ c.loop-periods.invariant c.requires.cost_range.few c.loop-periods-test.false

@@ -53,10 +53,10 @@ put_words-requires c =
     omega (arith, p.place, p.stored.same, c.loop-i-test.true, c.requires.buckets_in_bounds)
 
 pub overflow_add-next : goal.overflow_add-next
-overflow_add-next c = omega (arith, c.loop-i.inv.place, c.loop-i-test.taken, c.requires.buckets_in_bounds, c.LOOK.good.0.0)
+overflow_add-next c = omega (arith, c.loop-i.invariant.place, c.loop-i-test.true, c.requires.buckets_in_bounds, c.LOOK.good.0.0)
 
 pub loop-i-preserved : goal.loop-i-preserved
-loop-i-preserved c = onward _ _ _ _ c.loop-i.inv (omega (arith, c.requires.buckets_le_trace_limit, c.LOOK.good.1.1.1.0.1.0.1)) c.loop-i-test.taken _ c.put_words.ensures
+loop-i-preserved c = onward _ _ _ _ c.loop-i.invariant (omega (arith, c.requires.buckets_le_trace_limit, c.LOOK.good.1.1.1.0.1.0.1)) c.loop-i-test.true _ c.put_words.ensures
 
 pub shape_of-bytes : goal.shape_of-bytes
 shape_of-bytes c = c.loop-i.invariant.stored.same

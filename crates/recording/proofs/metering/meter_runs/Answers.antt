@@ -51,15 +51,15 @@ pub returns-in-Refused : goal.returns-in-Refused
 returns-in-Refused c =
     let fits : c.args.buckets ≤ length c.args.t4 = let l = c.requires.counts_range in omega (arith, l.few, l.periods.few, c.well_formed.1.1.1.0.1.0.1) in
     let ran : let l = c.loop-i in let s = c.args in let x = get_or s.t4 l.i no_record in open_says c.meter_run.result ≡ meter_run x.bucket s.factor (take x.periods (drop l.start s.trace.now)) = let l = c.loop-i in let s = c.args in let x = get_or s.t4 l.i no_record in c.meter_run.ensures ∙ ap (meter_run x.bucket s.factor) (part-is s.trace.now l.start x.periods) in
-    run-refused _ _ _ _ c.loop-i.inv (fits) c.loop-i-test.taken _ (ran) _ (ap open_says c.in-Refused.is)
+    run-refused _ _ _ _ c.loop-i.invariant (fits) c.loop-i-test.true _ (ran) _ (ap open_says c.in-Refused.is)
 
 pub with-totals-requires : goal.with-totals-requires
 with-totals-requires c =
     let ran : let l = c.loop-i in let s = c.args in let x = get_or s.t4 l.i no_record in open_says c.meter_run.result ≡ meter_run x.bucket s.factor (take x.periods (drop l.start s.trace.now)) = let l = c.loop-i in let s = c.args in let x = get_or s.t4 l.i no_record in c.meter_run.ensures ∙ ap (meter_run x.bucket s.factor) (part-is s.trace.now l.start x.periods) in
     let sound : (m : Meter) → open_says c.meter_run.result ≡ figures m → Sound m = λ m e. let l = c.loop-i in let ds = c.args.trace.now in let x = get_or c.args.t4 l.i no_record in let h : Demands ds = record { each = λ j. omega (arith, c.shared_slice_known-1.given j) } in metered-sound x.bucket c.args.factor (take x.periods (drop l.start ds)) (demands-take x.periods _ (demands-drop l.start ds h)) (omega (arith, c.requires.counts_range.periods.few, length-take x.periods (drop l.start ds), length-drop l.start ds)) m (sym (ran) ∙ e) in
-    let few = c.loop-i.inv.few in
+    let few = c.loop-i.invariant.few in
     let l = c.requires.counts_range in
-    let t = c.loop-i-test.taken in record {
+    let t = c.loop-i-test.true in record {
       few = record {
         sents = omega (arith, few.sents, t, l.few, l.periods.few);
         overs = omega (arith, few.overs, t, l.few, l.periods.few);
@@ -72,7 +72,7 @@ with-totals-requires c =
 pub overflow_add-i : goal.overflow_add-i
 overflow_add-i c =
     let l = c.requires.counts_range in
-    omega (arith, c.loop-i-test.taken, l.few, l.periods.few)
+    omega (arith, c.loop-i-test.true, l.few, l.periods.few)
 
 pub loop-i-preserved : goal.loop-i-preserved
 loop-i-preserved c =
@@ -80,7 +80,7 @@ loop-i-preserved c =
     let ran : let l = c.loop-i in let s = c.args in let x = get_or s.t4 l.i no_record in open_says c.meter_run.result ≡ meter_run x.bucket s.factor (take x.periods (drop l.start s.trace.now)) = let l = c.loop-i in let s = c.args in let x = get_or s.t4 l.i no_record in c.meter_run.ensures ∙ ap (meter_run x.bucket s.factor) (part-is s.trace.now l.start x.periods) in
     let sound : (m : Meter) → open_says c.meter_run.result ≡ figures m → Sound m = λ m e. let l = c.loop-i in let ds = c.args.trace.now in let x = get_or c.args.t4 l.i no_record in let h : Demands ds = record { each = λ j. omega (arith, c.shared_slice_known-1.given j) } in metered-sound x.bucket c.args.factor (take x.periods (drop l.start ds)) (demands-take x.periods _ (demands-drop l.start ds h)) (omega (arith, c.requires.counts_range.periods.few, length-take x.periods (drop l.start ds), length-drop l.start ds)) m (sym (ran) ∙ e) in
     let e = ap open_says c.in-Opened.is in
-    one_metered _ _ _ _ c.loop-i.inv (fits) c.loop-i-test.taken _ (ran) _ e (sound _ e) _ c.with-totals.ensures
+    one_metered _ _ _ _ c.loop-i.invariant (fits) c.loop-i-test.true _ (ran) _ e (sound _ e) _ c.with-totals.ensures
 
 pub returns : goal.returns
 returns c = all_metered _ _ _ _ c.loop-i.invariant c.loop-i-test.false
