@@ -1,6 +1,5 @@
 -- As many records are stored as the answer has buckets.
-use Rattle.std.proofs.Common.{◌≡◌, length, ◌∙◌}
-use Rattle.record_list.specs.Held.{counted}
+use Rattle.std.proofs.Common.{length, ◌∙◌}
 use Rattle.record_list.specs.HeldLaws.{stored-held}
 use Rattle.series.specs.CallLaws.{count-is, count_fits}
 use Rattle.series.specs.Series.{series_of}
