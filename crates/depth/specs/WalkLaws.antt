@@ -89,21 +89,21 @@ module _ (r : ℕ) {B y : ℕ} where
   on_enough {w} {h} (d ∷ ds) k n e =
       let c = and_both (eqb (over r h d) 0) (carries_from r B (held r B h d) ds) e in
       let z = eqb-true _ _ c.0 in
-      on_enough ds (push_holds r d k z) (push_enough r d k n z) c.1
+      on_enough {w = pushed r w d} {h = held r B h d} ds (push_holds r d k z) (push_enough r d k n z) c.1
 
   on_carried : {w : Walk} {h : ℕ} (ds : List ℕ) → Holds B y w h → Enough B y (foldl (pushed r) w ds) → carries_from r B h ds ≡ true
   unfolding carries_from
   on_carried [] k n = refl
   on_carried {w} {h} (d ∷ ds) k n =
       let z = enough_push r d k (walk_grows r B y (pushed r w d) ds n) in
-      both_and (eq-eqb _ _ z) (on_carried ds (push_holds r d k z) n)
+      both_and (eq-eqb _ _ z) (on_carried {w = pushed r w d} {h = held r B h d} ds (push_holds r d k z) n)
 
   on_holds : {w : Walk} {h : ℕ} (ds : List ℕ) → Holds B y w h → carries_from r B h ds ≡ true → Holds B y (foldl (pushed r) w ds) (held_after r B h ds)
   unfolding carries_from held_after
   on_holds [] k e = k
   on_holds {w} {h} (d ∷ ds) k e =
       let c = and_both (eqb (over r h d) 0) (carries_from r B (held r B h d) ds) e in
-      on_holds ds (push_holds r d k (eqb-true _ _ c.0)) c.1
+      on_holds {w = pushed r w d} {h = held r B h d} ds (push_holds r d k (eqb-true _ _ c.0)) c.1
 
 started-holds : (B y : ℕ) → y ≤ B → Holds B y started y
 started-holds B y h = record { came = y; room = B; sums = refl; ends = omega arith; tokens = sym (min-eq_left h) }

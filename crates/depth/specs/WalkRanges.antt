@@ -37,7 +37,7 @@ range_more h k = omega (arith, k.sums, k.gains, k.openings, k.endings, k.stretch
 
 range_on : (r : ℕ) {n : ℕ} {w : Walk} (ds : List ℕ) → r ≤ rate_limit → Demands ds → WalkRange n w → WalkRange (n + length ds) (foldl (pushed r) w ds)
 range_on r [] hr h k = range_more (omega arith) k
-range_on r (d ∷ ds) hr h k = range_more (omega arith) (range_on r ds hr (demands-tail h) (range_pushed r d k hr (h.each 0)))
+range_on r {n = n} {w = w} (d ∷ ds) hr h k = range_more (omega arith) (range_on r {n = n + 1} {w = pushed r w d} ds hr (demands-tail h) (range_pushed r d k hr (h.each 0)))
 
 pub walk_range : (r : ℕ) (ds : List ℕ) → r ≤ rate_limit → Demands ds → WalkRange (length ds) (walk_of r ds)
 unfolding walk_of

@@ -17,8 +17,8 @@ use Rattle.depth.specs.TurnLaws.{range_turned}
 use Rattle.depth.proofs.depths.depth_from_end.Goals as goal
 
 -- What is read off the walk turned round is the call's answer.
-read_off : (t : Tariff) (r : ℕ) (ds : List ℕ) (w v : Walk) (a : Answer ℕ) → walk_for t r ds ≡ figures w → v ≡ turned w → a ≡ read_off t v → a ≡ depth_from_end t r ds
-read_off t r ds w v a e f h = h ∙ ap (read_off t) f ∙ then_figures _ (λ x. read_off t (turned x)) e ∙ from_end_by_walk t r ds
+read_turned : (t : Tariff) (r : ℕ) (ds : List ℕ) (w v : Walk) (a : Answer ℕ) → walk_for t r ds ≡ figures w → v ≡ turned w → a ≡ read_off t v → a ≡ depth_from_end t r ds
+read_turned t r ds w v a e f h = h ∙ ap (read_off t) f ∙ then_figures _ (λ x. read_off t (turned x)) e ∙ from_end_by_walk t r ds
 
 pub returns-in-Refused : goal.returns-in-Refused
 returns-in-Refused c =
@@ -36,4 +36,4 @@ pub returns : goal.returns
 returns c =
     let made : let a = c.args in walk_for a.tariff a.rate.0 a.list.now ≡ figures c.in-Walked.x = sym c.walk_through.ensures ∙ ap walk_says c.in-Walked.is in
     let a = c.args in
-    read_off a.tariff a.rate.0 a.list.now _ _ _ (made) c.turned.ensures c.depth.ensures
+    read_turned a.tariff a.rate.0 a.list.now _ _ _ (made) c.turned.ensures c.depth.ensures
