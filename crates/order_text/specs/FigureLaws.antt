@@ -75,7 +75,7 @@ kept_closes {s} (ended h stands) k =
       factor = λ l. factor-append s.figures s.value k.factor stands (omega (arith, n));
     }
 
-kept_goes : {s t : Scan} {b : ℕ} → Goes s b t → Kept s → Kept t
+kept_goes : {s : Scan} {b : ℕ} {t : Scan} → Goes s b t → Kept s → Kept t
 kept_goes {s} {b = b} (inside n l e) k =
     record { each = k.each; value = push_limit (limit_of (length s.figures)) s.value b n e; few = k.few; room = λ h. l; factor = k.factor }
 kept_goes (past c) k =

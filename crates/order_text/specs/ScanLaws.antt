@@ -115,7 +115,7 @@ passed-line : (t : Bool) (n : ℕ) → cond t (n + 1) n ≤ n + 1
 passed-line true n = omega arith
 passed-line false n = omega arith
 
-pub goes_line : {s t : Scan} {b : ℕ} → Goes s b t → t.line ≤ s.line + 1
+pub goes_line : {s : Scan} {b : ℕ} {t : Scan} → Goes s b t → t.line ≤ s.line + 1
 goes_line (inside n l e) = omega arith
 goes_line {b = b} (past {t} c) = omega (arith, closes_line c, passed-line (ends_line t.returned b) t.line)
 

@@ -22,6 +22,7 @@ use Rattle.causes.specs.Cause.{demand_of, need_of, short, stretch_start}
 use Rattle.causes.specs.PeriodNeedLaws.{demand_le, sums-enough, sums-short}
 use Rattle.causes.proofs.searches.stretch_start.Invariants.{Started}
 use Rattle.causes.proofs.searches.stretch_start.Goals as goal
+use Rattle.causes.proofs.searches.stretch_start.Goals.{then-tokens-demands, else-tokens-demands}
 
 start : (r C : ℕ) (ds : List ℕ) (v : ℕ) → 1 ≤ v → Started r C ds v v 0 C v
 unfolding total
@@ -119,7 +120,7 @@ loop-u-preserved c =
     let k = c.loop-u.invariant in
     let l = c.loop-u-test.true in
     let n = c.requires.last_in_bounds in
-    ⊎_elim (λ a. hit k l n _ a.0.taken a.1) (λ a. miss k l n _ a.0.left a.1) c.if-tokens-demands.branch
+    elim c.if-tokens-demands.branch [ then-tokens-demands w ↦ hit k l n _ w.if-tokens-demands.true w.first-is | else-tokens-demands w ↦ miss k l n _ w.if-tokens-demands.false w.first-is ]
 
 pub returns : goal.returns
 returns c = end c.loop-u.invariant c.loop-u-test.false

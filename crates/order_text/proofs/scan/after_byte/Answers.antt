@@ -38,7 +38,7 @@ returns-then-not-ends_figure c =
 pub pass-requires-in-On : goal.pass-requires-in-On
 pass-requires-in-On c =
     let begins : Scan = scan_of c.args.at c.args.figures.now in
-    let comes-to : (r : Step) → c.close.result ≡ r → step_says r c.close.new.1.0 ≡ closed (begins) = λ r e. ap (λ (x : Step). step_says x c.close.new.1.0) (sym e) ∙ c.close.ensures.figures_after in
+    let comes-to : (r : Step) → c.close.result ≡ r → step_says r c.close.new.figures ≡ closed (begins) = λ r e. ap (λ (x : Step). step_says x c.close.new.figures) (sym e) ∙ c.close.ensures.figures_after in
     let k = sym (comes-to _ c.in-On.is) in
     let p = subst (At c.args.at.place c.args.at.place) k (closed_at (begins)) in
     record { lines = omega (arith, c.requires.ahead.lines, closes_line (closes (begins) _ k)); places = omega (arith, c.requires.ahead.places, p) }
@@ -46,8 +46,8 @@ pass-requires-in-On c =
 pub returns-in-On : goal.returns-in-On
 returns-in-On c =
     let begins : Scan = scan_of c.args.at c.args.figures.now in
-    let comes-to : (r : Step) → c.close.result ≡ r → step_says r c.close.new.1.0 ≡ closed (begins) = λ r e. ap (λ (x : Step). step_says x c.close.new.1.0) (sym e) ∙ c.close.ensures.figures_after in
-    let ends : (r : Step) → c.close.result ≡ r → on_read (λ t. passed t c.args.byte) (step_says r c.close.new.1.0) ≡ after_byte (begins) c.args.byte = λ r e. ap (on_read (λ t. passed t c.args.byte)) (comes-to r e) ∙ sym (after_end (begins) c.args.byte c.if-at.false (sym c.is_digit.ensures ∙ c.if-is_digit.false) ((sym c.ends_figure.ensures ∙ c.if-not-ends_figure.false))) in
+    let comes-to : (r : Step) → c.close.result ≡ r → step_says r c.close.new.figures ≡ closed (begins) = λ r e. ap (λ (x : Step). step_says x c.close.new.figures) (sym e) ∙ c.close.ensures.figures_after in
+    let ends : (r : Step) → c.close.result ≡ r → on_read (λ t. passed t c.args.byte) (step_says r c.close.new.figures) ≡ after_byte (begins) c.args.byte = λ r e. ap (on_read (λ t. passed t c.args.byte)) (comes-to r e) ∙ sym (after_end (begins) c.args.byte c.if-at.false (sym c.is_digit.ensures ∙ c.if-is_digit.false) ((sym c.ends_figure.ensures ∙ c.if-not-ends_figure.false))) in
     let e = c.in-On.is in
     let p = c.pass-in-On.ensures in
     record { figures_after = ap read (p.says _) ∙ ends _ e; step_fits = p.fits (subst StepFits e c.close.ensures.step_fits) }
@@ -55,6 +55,6 @@ returns-in-On c =
 pub returns-in-Faulty : goal.returns-in-Faulty
 returns-in-Faulty c =
     let begins : Scan = scan_of c.args.at c.args.figures.now in
-    let comes-to : (r : Step) → c.close.result ≡ r → step_says r c.close.new.1.0 ≡ closed (begins) = λ r e. ap (λ (x : Step). step_says x c.close.new.1.0) (sym e) ∙ c.close.ensures.figures_after in
-    let ends : (r : Step) → c.close.result ≡ r → on_read (λ t. passed t c.args.byte) (step_says r c.close.new.1.0) ≡ after_byte (begins) c.args.byte = λ r e. ap (on_read (λ t. passed t c.args.byte)) (comes-to r e) ∙ sym (after_end (begins) c.args.byte c.if-at.false (sym c.is_digit.ensures ∙ c.if-is_digit.false) ((sym c.ends_figure.ensures ∙ c.if-not-ends_figure.false))) in
+    let comes-to : (r : Step) → c.close.result ≡ r → step_says r c.close.new.figures ≡ closed (begins) = λ r e. ap (λ (x : Step). step_says x c.close.new.figures) (sym e) ∙ c.close.ensures.figures_after in
+    let ends : (r : Step) → c.close.result ≡ r → on_read (λ t. passed t c.args.byte) (step_says r c.close.new.figures) ≡ after_byte (begins) c.args.byte = λ r e. ap (on_read (λ t. passed t c.args.byte)) (comes-to r e) ∙ sym (after_end (begins) c.args.byte c.if-at.false (sym c.is_digit.ensures ∙ c.if-is_digit.false) ((sym c.ends_figure.ensures ∙ c.if-not-ends_figure.false))) in
     record { figures_after = ends _ c.in-Faulty.is; step_fits = tt }

@@ -26,6 +26,6 @@ returns c =
     let ns = c.args.figures.now in
     let e = part_to_end ns tariff_figures in
     let n = length-drop tariff_figures ns in
-    let front = copied_front (demands_of ns) _ c.load_demands.new.1.0 (length ns - 7) (sym n) (omega (arith, n, c.requires.few)) (c.load_demands.ensures ∙ ap (sets _ 0) e) in
+    let front = copied_front (demands_of ns) _ c.load_demands.new.demands (length ns - 7) (sym n) (omega (arith, n, c.requires.few)) (c.load_demands.ensures ∙ ap (sets _ 0) e) in
     let all = order-written ns c.args.file.now _ _ _ _ _ c.tariff_of.ensures front c.answer_of.ensures c.write_order.ensures.result_value c.write_order.ensures.bytes_after in
     record { result_value = all.0; file_after = all.1 }

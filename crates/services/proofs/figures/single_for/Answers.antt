@@ -16,12 +16,12 @@ returns-in-Refused c = then_refused _ _ (order_unread _ _ _ _ c.spread_order.ens
 
 pub slice_bounds-demands-end : goal.slice_bounds-demands-end
 slice_bounds-demands-end c =
-    let inside : c.in-Read.x.periods ≤ length c.spread_order.new.1.0 = demands-inside _ _ _ _ c.spread_order.ensures _ (ap order_says c.in-Read.is) in
+    let inside : c.in-Read.x.periods ≤ length c.spread_order.new.demands = demands-inside _ _ _ _ c.spread_order.ensures _ (ap order_says c.in-Read.is) in
     omega (arith, inside)
 
 pub slice_bounds-single-end : goal.slice_bounds-single-end
 slice_bounds-single-end c =
-    let inside : c.in-Read.x.periods ≤ length c.spread_order.new.1.0 = demands-inside _ _ _ _ c.spread_order.ensures _ (ap order_says c.in-Read.is) in
+    let inside : c.in-Read.x.periods ≤ length c.spread_order.new.demands = demands-inside _ _ _ _ c.spread_order.ensures _ (ap order_says c.in-Read.is) in
     sym (length-take-le _ _ (omega (arith, inside)))
 
 pub returns : goal.returns
