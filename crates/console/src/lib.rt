@@ -17,6 +17,9 @@ use std::io::{Input, Read};
 use terms::Refusal;
 use text::{LONGEST_REFUSAL, refusal_line};
 
+// The room for a text, or for the cases of a test program.
+pub const INPUT_ROOM: usize = 65_536;
+
 // One byte more than the longest order, so that a byte behind it is seen.
 pub const ORDER_ROOM: usize = LONGEST_ORDER + 1;
 
