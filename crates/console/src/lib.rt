@@ -13,7 +13,7 @@ pub use arguments::{has_words, is_word, number_argument};
 use encoding::FillAnswer;
 use order_file::LONGEST_ORDER;
 use reasons::say;
-use std::io::{Input, Read};
+use std::io::Read;
 use terms::Refusal;
 use text::{LONGEST_REFUSAL, refusal_line};
 

@@ -12,7 +12,7 @@ use Rattle.terms.specs.Bools.{and_three, and_six, both_and}
 use Rattle.terms.specs.Ranges.{fresh_ok}
 use Rattle.terms.specs.RangeRules.{FreshRange}
 use Rattle.terms.specs.RangeLaws.{fresh_range, fresh_ok_lem}
-use Rattle.bucket.specs.Step.{start_of, sent, over, held, lost, period_of}
+use Rattle.bucket.specs.Step.{start_of, sent, held, lost, period_of}
 use Rattle.bucket.specs.Laws.{start_le}
 use Rattle.meter.specs.declared.meters.Meter.{Meter}
 use Rattle.meter.specs.Meter.{totals_ok, balanced, meter_ok, fresh_meter, open_of, offer_of, record_after}

@@ -13,7 +13,7 @@ use Rattle.terms.specs.Answer.{figures, refused, weigh, and_then}
 use Rattle.terms.specs.AnswerLaws.{same-figures, then_found}
 use Rattle.terms.specs.RangeRules.{FreshRange}
 use Rattle.terms.specs.RangeLaws.{fresh_ok_lem}
-use Rattle.bucket.specs.Step.{start_of, sent, over, held, lost, period_of}
+use Rattle.bucket.specs.Step.{start_of, period_of}
 use Rattle.bucket.specs.Trace.{Demands, held_after, sum_of, sent_all, over_all, lost_all, carries}
 use Rattle.bucket.specs.Laws.{demands-tail, start_le, conservation, carried-over, over-carried}
 use Rattle.meter.specs.declared.meters.Meter.{Meter}
@@ -80,7 +80,7 @@ pub metered : (m : Meter) (ds : List ℕ) → Sound m → Demands ds → Metered
 unfolding after_offers accepted
 metered m [] k h = record { sound = k; accepts = sym (take-nil (meter_limit - m.periods)); records = rw (take-nil {A = ℕ} (meter_limit - m.periods)) (advanced_none m) }
 metered m (d ∷ ds) k h =
-    go (ltb m.periods meter_limit) refl (λ l. metered _ ds (taken_sound m d k l (h.each 0)) (demands-tail h)) (metered m ds k (demands-tail h))
+    go (ltb m.periods meter_limit) refl (λ l. metered (record_after m (figures (period_of m.bucket.rate.0 m.bucket.depth.0 m.held d))) ds (taken_sound m d k l (h.each 0)) (demands-tail h)) (metered m ds k (demands-tail h))
   where
     go : (b : Bool) → ltb m.periods meter_limit ≡ b
         → (m.periods < meter_limit → Metered (record_after m (figures (period_of m.bucket.rate.0 m.bucket.depth.0 m.held d))) ds)
@@ -95,7 +95,7 @@ offers_taken m [] k h l = refl
 offers_taken m (d ∷ ds) k h l =
     let n : m.periods < meter_limit = omega arith in
     let e = offer_taken m d (sound_meter m k) n in
-    rw e (offers_taken _ ds (taken_sound m d k n (h.each 0)) (demands-tail h) (omega arith))
+    rw e (offers_taken (record_after m (figures (period_of m.bucket.rate.0 m.bucket.depth.0 m.held d))) ds (taken_sound m d k n (h.each 0)) (demands-tail h) (omega arith))
 
 -- ---- An opened meter
 

@@ -30,7 +30,8 @@ pub fn load_records(list: &[BucketRecord], count: usize) -> [BucketRecord; TRACE
     let mut records = blank_records();
     let mut i = 0;
     while i < count {
-        records = with_record(records, i, list[i]);
+        let next = with_record(records, i, list[i]);
+        records = next;
         i += 1;
     }
     records

@@ -2,7 +2,6 @@
 use Prim.Native.Nat.{◌*◌, ◌≤◌}
 use native.Mathlib.Omega.{arith}
 use native.Mathlib.Nat.{mul-le-mul}
-use borrow.Author.Rules.{rules}
 use Rattle.terms.specs.Limits.{rate_limit, meter_limit}
 use Rattle.meter.proofs.meters.balances.Goals as goal
 

@@ -3,11 +3,9 @@ use Prim.Native.Nat.{◌+◌}
 use native.Mathlib.Omega.{arith}
 use mathlib.Core.Path.{◌≡◌, ap}
 use mathlib.Core.Bool.{true}
-use borrow.Author.Rules.{rules}
 use Rattle.meter.specs.declared.meters.Meter.{Meter}
 use Rattle.meter.specs.Meter.{meter_ok}
 use Rattle.meter.specs.MeterLaws.{meter_sound, offer_broken, offer_full, offer_taken}
-use Rattle.terms.specs.Bools.{check_passed, check_failed}
 use mathlib.Core.Path.{sym, ◌∙◌}
 use Rattle.meter.proofs.meters.offer.Goals as goal
 

@@ -1,10 +1,8 @@
 -- The one refusal is the range test's; past it the record is the fresh one, by the starting tokens.
 use mathlib.Core.Path.{◌≡◌}
 use mathlib.Core.Bool.{true}
-use borrow.Author.Rules.{rules}
 use Rattle.terms.specs.Ranges.{fresh_ok}
 use Rattle.terms.specs.RangeLaws.{fresh_range}
-use Rattle.terms.specs.Bools.{check_passed, check_failed}
 use mathlib.Core.Path.{sym, ◌∙◌}
 use Rattle.meter.proofs.meters.open_meter.Goals as goal
 

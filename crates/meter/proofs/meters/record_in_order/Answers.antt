@@ -1,12 +1,10 @@
 -- The record's rule is the conjunction of three tests; each return is where one of them decides.
 use mathlib.Core.Path.{◌≡◌}
 use mathlib.Core.Bool.{true}
-use borrow.Author.Rules.{rules}
 use Rattle.terms.specs.Ranges.{fresh_ok}
 use Rattle.terms.specs.RangeLaws.{fresh_range}
 use Rattle.meter.specs.Meter.{totals_ok, meter_ok}
 use Rattle.meter.specs.MeterLaws.{totals_range}
-use Rattle.terms.specs.Bools.{check_passed, check_failed}
 use mathlib.Core.Path.{sym, ◌∙◌}
 use Rattle.meter.proofs.meters.record_in_order.Goals as goal
 

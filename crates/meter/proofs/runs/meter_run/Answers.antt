@@ -2,7 +2,6 @@
 use mathlib.Core.Path.{sym, ap, ◌∙◌}
 use Rattle.terms.specs.AnswerLaws.{then_figures, then_refused}
 use Rattle.meter.specs.Meter.{open_says}
-use borrow.Author.Rules.{rules}
 use Rattle.meter.proofs.runs.meter_run.Goals as goal
 
 pub returns-in_default : goal.returns-in_default

@@ -1,6 +1,6 @@
 -- What the offers that are left make of the record reached is what all of them make of the first;
 -- a refusal is that of the next.
-use Prim.Native.Nat.{ℕ, ◌+◌, ◌-◌, ◌≤◌, ◌<◌}
+use Prim.Native.Nat.{ℕ, ◌+◌, ◌≤◌, ◌<◌}
 use native.Mathlib.Numerals.{add-one}
 use mathlib.Core.Path.{◌≡◌, refl, sym, ap, ◌∙◌}
 use mathlib.Core.List.{List, ◌∷◌}
@@ -11,7 +11,6 @@ use Rattle.bucket.specs.declared.period.Period.{Period}
 use Rattle.meter.specs.declared.meters.Meter.{Meter}
 use Rattle.meter.specs.declared.meters.Offered.{Offered}
 use Rattle.meter.specs.Meter.{record_after, offers_of, offer_says, Answered}
-use borrow.Author.Rules.{rules}
 use Rattle.meter.proofs.runs.offer_each.Goals as goal
 
 module _ (m : Meter) (ds : List ℕ) (i : ℕ) (whole : Answer Meter) (e : offers_of m (drop i ds) ≡ whole) where

@@ -22,7 +22,7 @@ pub returns-in_default : goal.returns-in_default
 returns-in_default c =
     record {
       walked = c.push-walk.ensures;
-      charged = ap (charge_at _ _) (sym (ap depth_says c.in_default.is) ∙ c.depth_after.ensures);
+      charged = ap (charge_at c.args.tariff c.args.low.0) (sym (ap depth_says c.in_default.is) ∙ c.depth_after.ensures);
       found = λ m. absurd (omega arith);
     }
 
@@ -37,6 +37,6 @@ returns c =
     let found : figures c.in-Found.depth.0 ≡ walk_depth c.args.tariff c.push-walk.result = sym (ap depth_says c.in-Found.is) ∙ c.depth_after.ensures in
     record {
       walked = c.push-walk.ensures;
-      charged = c.charge_of-charge.ensures ∙ ap (charge_at _ _) (found);
+      charged = c.charge_of-charge.ensures ∙ ap (charge_at c.args.tariff c.args.low.0) (found);
       found = λ m. sym (found);
     }
