@@ -7,32 +7,29 @@ mod files;
 use booking::BookingAnswer;
 use console::{ORDER_ROOM, has_words, put_front, read_all, refuse};
 use files::book_file;
-use libc::{STDERR_FILENO, STDOUT_FILENO};
 use plan_file::LONGEST_PLAN;
 
-fn main() {
+fn main(rt: HostRuntime) {
     if !has_words(
+        &rt,
         1,
-        b"use: book < ORDER > PLAN (an order file on standard input)\n",
-        b"book: write",
+        "use: book < ORDER > PLAN (an order file on standard input)\n",
+        "book: write",
     ) {
         return;
     }
     let mut order = [0u8; ORDER_ROOM];
-    let length = read_all(&mut order, b"book: standard input");
-    book_order(&order[..length]);
+    let length = read_all(&rt, &mut order, "book: standard input");
+    book_order(&rt, &rt.stderr(), &order[..length]);
 }
 
-fn book_order(order: &[u8]) {
+fn book_order(rt: &(impl Print + Eprint), errors: &impl Print, order: &[u8]) {
     let mut bytes = [0u8; LONGEST_PLAN];
     let answer = book_file(order, &mut bytes);
     match answer {
-        BookingAnswer::Booked(booked) => put_front(
-            STDOUT_FILENO,
-            &bytes,
-            booked.length,
-            b"book: write",
-        ),
-        BookingAnswer::Refused(why) => refuse(STDERR_FILENO, why, b"book: write"),
+        BookingAnswer::Booked(booked) => {
+            put_front(rt, rt, &bytes, booked.length, "book: write");
+        }
+        BookingAnswer::Refused(why) => refuse(rt, errors, why, "book: write"),
     }
 }

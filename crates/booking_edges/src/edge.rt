@@ -11,30 +11,30 @@ use samples::file_bytes::{LENT, LENT_BYTES, front, is_lent, lent_front};
 use samples::lent_records::{ENTRIES, are_kept, filled};
 
 // A case: an order of some tariff and trace, booked in some rooms.
-pub fn order_case(line: &[u8]) {
+pub fn order_case(rt: &impl Print, line: &[u8]) {
     let mut room = [0u16; DEMANDS];
     let count = trace(field(line, 4), &mut room);
     let mut file = [LENT; LENT_BYTES];
     let answer = write_order(tariff_of(field(line, 3)), demands(&room, count), &mut file);
-    named(line, front(&file, report::filled_of(answer)));
+    named(rt, line, front(&file, report::filled_of(answer)));
 }
 
 // A case: the first bytes of a file of some words.
-pub fn damaged_case(line: &[u8]) {
+pub fn damaged_case(rt: &impl Print, line: &[u8]) {
     let file = file_of(field(line, 4));
-    named(line, front(&file, figure(field(line, 3), 0) as usize));
+    named(rt, line, front(&file, figure(field(line, 3), 0) as usize));
 }
 
 // The name and the rooms of a case, and what booking its order answers.
-fn named(line: &[u8], order: &[u8]) {
+fn named(rt: &impl Print, line: &[u8], order: &[u8]) {
     let rooms = rooms_of(field(line, 2));
-    report::words(field(line, 1));
-    print_rooms(rooms);
-    book_in(order, rooms);
+    report::words(rt, field(line, 1));
+    print_rooms(rt, rooms);
+    book_in(rt, order, rooms);
 }
 
 // The answer and what is kept; and of a booking the records and the meters.
-fn book_in(order: &[u8], rooms: Rooms) {
+fn book_in(rt: &impl Print, order: &[u8], rooms: Rooms) {
     let mut demands = [LENT_DEMAND; ENTRIES];
     let mut bytes = [LENT; LENT_BYTES];
     let lent = book_on(
@@ -49,35 +49,35 @@ fn book_in(order: &[u8], rooms: Rooms) {
     let answer = lent.answer;
     let plan = lent.plan;
     let back = lent.back;
-    print_answer(answer);
+    print_answer(rt, answer);
     let booking = booking_of(answer);
     let buckets = booking.plan.buckets as usize;
     let length = booking.length;
-    report::kept(
+    report::kept(rt, 
         are_lent(&demands, booking.plan.periods as usize)
             & are_kept(plan, buckets)
             & is_lent(&bytes, length)
             & are_kept(back, buckets),
     );
     if 0 < buckets {
-        report::words(b"planned");
-        read_again(&bytes, length, plan);
-        report::words(b"read back");
-        read_again(&bytes, length, back);
-        print_runs(order, &demands, back);
+        report::words(rt, b"planned");
+        read_again(rt, &bytes, length, plan);
+        report::words(rt, b"read back");
+        read_again(rt, &bytes, length, back);
+        print_runs(rt, order, &demands, back);
     }
 }
 
 // The plan's figures, the file's length and the totals of the meters, or the refusal.
-fn print_answer(answer: BookingAnswer) {
+fn print_answer(rt: &impl Print, answer: BookingAnswer) {
     match answer {
         BookingAnswer::Booked(x) => {
             let plan = x.plan;
-            report::plan(PlanAnswer::Read(plan));
-            report::figure(b" length", x.length as u64);
-            report::totals(x.meters.sent, x.meters.over, x.meters.lost, x.meters.held);
+            report::plan(rt, PlanAnswer::Read(plan));
+            report::figure(rt, b" length", x.length as u64);
+            report::totals(rt, x.meters.sent, x.meters.over, x.meters.lost, x.meters.held);
         }
-        BookingAnswer::Refused(x) => report::refusal(x),
+        BookingAnswer::Refused(x) => report::refusal(rt, x),
     }
 }
 

@@ -8,25 +8,25 @@ mod recorded;
 mod rooms;
 
 use cases::{first, line, lines};
-use console::read_all;
+use console::{INPUT_ROOM, read_all};
 
-fn main() {
-    let mut input = io::large_buffer();
-    let length = read_all(&mut input, b"booking_edges: standard input");
-    each_case(&input[..length]);
+fn main(rt: HostRuntime) {
+    let mut input = [0u8; INPUT_ROOM];
+    let length = read_all(&rt, &mut input, "booking_edges: standard input");
+    each_case(&rt, &input[..length]);
 }
 
-fn each_case(input: &[u8]) {
+fn each_case(rt: &impl Print, input: &[u8]) {
     for n in 0..lines(input) {
-        case(line(input, n));
+        case(rt, line(input, n));
     }
 }
 
-fn case(line: &[u8]) {
+fn case(rt: &impl Print, line: &[u8]) {
     match first(line) {
-        b'o' => edge::order_case(line),
-        b'd' => edge::damaged_case(line),
+        b'o' => edge::order_case(rt, line),
+        b'd' => edge::damaged_case(rt, line),
         b'#' => {}
-        _ => report::words(b"no such case\n"),
+        _ => report::words(rt, b"no such case\n"),
     }
 }

@@ -10,22 +10,22 @@ use samples::lent_records::{ENTRIES, are_same, at_most, filled};
 use terms::{Bucket, BucketRecord};
 
 // What reading the front of the bytes gives, and whether its records are those in the list.
-pub fn read_again(bytes: &[u8; LENT_BYTES], length: usize, list: [BucketRecord; ENTRIES]) {
+pub fn read_again(rt: &impl Print, bytes: &[u8; LENT_BYTES], length: usize, list: [BucketRecord; ENTRIES]) {
     let lent = read_on(front(bytes, length), filled(), ENTRIES);
     let answer = lent.answer;
     let read = lent.list;
-    report::words(b", file read again:");
-    report::plan(answer);
+    report::words(rt, b", file read again:");
+    report::plan(rt, answer);
     if are_same(list, read, 0) {
-        report::words(b", same records\n");
+        report::words(rt, b", same records\n");
     } else {
-        report::words(b", other records\n");
+        report::words(rt, b", other records\n");
     }
 }
 
 // A line for each run until the order's last period: its first and last period, its bucket, and what
 // its meter ended with.
-pub fn print_runs(order: &[u8], demands: &[u16; ENTRIES], list: [BucketRecord; ENTRIES]) {
+pub fn print_runs(rt: &impl Print, order: &[u8], demands: &[u16; ENTRIES], list: [BucketRecord; ENTRIES]) {
     let OrderAnswer::Read(x) = read_order(order) else {
         return;
     };
@@ -38,9 +38,9 @@ pub fn print_runs(order: &[u8], demands: &[u16; ENTRIES], list: [BucketRecord; E
         let record = list[i];
         let end = end_of(start, record.periods);
         let bucket = record.bucket;
-        report::figure(b"periods", start as u64 + 1);
-        report::figure(b" to", end as u64);
-        print_meter(
+        report::figure(rt, b"periods", start as u64 + 1);
+        report::figure(rt, b" to", end as u64);
+        print_meter(rt, 
             bucket,
             meter_run(bucket, factor, part_of(demands, start, end)),
         );
@@ -56,12 +56,12 @@ fn end_of(start: usize, run: u32) -> usize
     at_most(start + at_most(run as usize, ENTRIES), ENTRIES)
 }
 
-fn print_meter(bucket: Bucket, answer: MeterAnswer) {
-    report::figure(b": rate", bucket.rate.0 as u64);
-    report::figure(b" depth", bucket.depth.0 as u64);
+fn print_meter(rt: &impl Print, bucket: Bucket, answer: MeterAnswer) {
+    report::figure(rt, b": rate", bucket.rate.0 as u64);
+    report::figure(rt, b" depth", bucket.depth.0 as u64);
     match answer {
-        MeterAnswer::Opened(m) => report::totals(m.sent, m.over, m.lost, m.held as u64),
-        MeterAnswer::Refused(x) => report::refusal(x),
+        MeterAnswer::Opened(m) => report::totals(rt, m.sent, m.over, m.lost, m.held as u64),
+        MeterAnswer::Refused(x) => report::refusal(rt, x),
     }
-    report::end_line();
+    report::end_line(rt);
 }

@@ -21,10 +21,10 @@ pub fn rooms_of(field: &[u8]) -> Rooms {
     }
 }
 
-pub fn print_rooms(x: Rooms) {
-    report::figure(b", demands", x.demands as u64);
-    report::figure(b", list", x.list as u64);
-    report::figure(b", bytes", x.bytes as u64);
-    report::figure(b", back", x.back as u64);
-    report::words(b":");
+pub fn print_rooms(rt: &impl Print, x: Rooms) {
+    report::figure(rt, b", demands", x.demands as u64);
+    report::figure(rt, b", list", x.list as u64);
+    report::figure(rt, b", bytes", x.bytes as u64);
+    report::figure(rt, b", back", x.back as u64);
+    report::words(rt, b":");
 }

@@ -19,18 +19,18 @@ enum Calls {
     Series,
 }
 
-fn main() {
-    report::words(b"trial and meter: ");
-    compare(Calls::Meters, meter_cases::CASES);
-    report::words(b"depth and single: ");
-    compare(Calls::Singles, single_cases::CASES);
-    report::words(b"series: ");
-    compare(Calls::Series, series_cases::CASES);
+fn main(rt: HostRuntime) {
+    report::words(&rt, b"trial and meter: ");
+    compare(&rt, Calls::Meters, meter_cases::CASES);
+    report::words(&rt, b"depth and single: ");
+    compare(&rt, Calls::Singles, single_cases::CASES);
+    report::words(&rt, b"series: ");
+    compare(&rt, Calls::Series, series_cases::CASES);
 }
 
 // A line with the number of cases, and in how many of them the calls agree with what is plain.
-fn compare(calls: Calls, cases: u32) {
-    report::agreement(cases, agreed(calls, cases));
+fn compare(rt: &impl Print, calls: Calls, cases: u32) {
+    report::agreement(rt, cases, agreed(calls, cases));
 }
 
 // In how many of the cases they agree.

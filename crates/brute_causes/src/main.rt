@@ -13,9 +13,9 @@ use terms::Rate;
 // rates 0 to 4.
 const CASES: u32 = 562_500;
 
-fn main() {
-    report::words(b"depth and cause: ");
-    report::agreement(CASES, agreed());
+fn main(rt: HostRuntime) {
+    report::words(&rt, b"depth and cause: ");
+    report::agreement(&rt, CASES, agreed());
 }
 
 // In how many of the cases the call agrees with what is plain.

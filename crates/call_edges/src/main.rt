@@ -9,26 +9,26 @@ mod meters;
 mod million;
 
 use cases::{field, first, line, lines};
-use console::read_all;
+use console::{INPUT_ROOM, read_all};
 
-fn main() {
-    let mut input = io::large_buffer();
-    let length = read_all(&mut input, b"call_edges: standard input");
-    each_case(&input[..length]);
-    million::offers_until_full();
-    million::runs();
+fn main(rt: HostRuntime) {
+    let mut input = [0u8; INPUT_ROOM];
+    let length = read_all(&rt, &mut input, "call_edges: standard input");
+    each_case(&rt, &input[..length]);
+    million::offers_until_full(&rt);
+    million::runs(&rt);
 }
 
-fn each_case(input: &[u8]) {
+fn each_case(rt: &impl Print, input: &[u8]) {
     for n in 0..lines(input) {
-        case(line(input, n));
+        case(rt, line(input, n));
     }
 }
 
-fn case(line: &[u8]) {
+fn case(rt: &impl Print, line: &[u8]) {
     match first(line) {
         b'#' => {}
-        b'm' => meters::offers(field(line, 1), meters::meter(field(line, 2))),
-        _ => answers::named(line),
+        b'm' => meters::offers(rt, field(line, 1), meters::meter(field(line, 2))),
+        _ => answers::named(rt, line),
     }
 }

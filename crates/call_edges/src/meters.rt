@@ -18,46 +18,46 @@ pub fn meter(field: &[u8]) -> Meter {
 }
 
 // A meter's record, or the refusal, to the end of the line.
-pub fn print_meter(a: MeterAnswer) {
+pub fn print_meter(rt: &impl Print, a: MeterAnswer) {
     match a {
-        MeterAnswer::Opened(m) => figures(m),
-        MeterAnswer::Refused(x) => report::refusal(x),
+        MeterAnswer::Opened(m) => figures(rt, m),
+        MeterAnswer::Refused(x) => report::refusal(rt, x),
     }
-    report::end_line();
+    report::end_line(rt);
 }
 
-pub fn figures(m: Meter) {
-    report::figure(b" tokens", m.held as u64);
-    report::figure(b" periods", m.periods as u64);
-    report::figure(b" sent", m.sent);
-    report::figure(b" over", m.over);
-    report::figure(b" lost", m.lost);
+pub fn figures(rt: &impl Print, m: Meter) {
+    report::figure(rt, b" tokens", m.held as u64);
+    report::figure(rt, b" periods", m.periods as u64);
+    report::figure(rt, b" sent", m.sent);
+    report::figure(rt, b" over", m.over);
+    report::figure(rt, b" lost", m.lost);
 }
 
 // The least and the greatest offer, each to the same record.
-pub fn offers(edge: &[u8], m: Meter) {
-    offering(edge, m, 0);
-    offering(edge, m, 65_535);
+pub fn offers(rt: &impl Print, edge: &[u8], m: Meter) {
+    offering(rt, edge, m, 0);
+    offering(rt, edge, m, 65_535);
 }
 
-fn offering(edge: &[u8], m: Meter, demand: u16) {
-    report::figure(b"offer", demand as u64);
-    report::words(b" to ");
-    report::words(edge);
-    report::words(b":");
+fn offering(rt: &impl Print, edge: &[u8], m: Meter, demand: u16) {
+    report::figure(rt, b"offer", demand as u64);
+    report::words(rt, b" to ");
+    report::words(rt, edge);
+    report::words(rt, b":");
     let o = meter::offer(m, demand);
     let next = o.meter;
     let answer = o.answer;
     match answer {
-        OfferAnswer::Taken(_) => figures(next),
+        OfferAnswer::Taken(_) => figures(rt, next),
         OfferAnswer::Refused(x) => {
-            report::refusal(x);
+            report::refusal(rt, x);
             if !same(m, next) {
-                report::words(b" and changed the record");
+                report::words(rt, b" and changed the record");
             }
         }
     }
-    report::end_line();
+    report::end_line(rt);
 }
 
 fn same(a: Meter, b: Meter) -> bool {

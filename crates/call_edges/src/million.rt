@@ -16,16 +16,16 @@ fn bucket() -> Bucket {
 }
 
 // A meter takes a million offers and refuses the next.
-pub fn offers_until_full() {
+pub fn offers_until_full(rt: &impl Print) {
     let opened = open_meter(bucket(), Factor { p: 1, q: 2 });
     let MeterAnswer::Opened(m) = opened else {
         return;
     };
     let full = after_offers(m);
-    report::words(b"after 1000000 offers of 6:");
-    figures(full);
-    report::end_line();
-    offers(b"a full meter", full);
+    report::words(rt, b"after 1000000 offers of 6:");
+    figures(rt, full);
+    report::end_line(rt);
+    offers(rt, b"a full meter", full);
 }
 
 fn after_offers(m: Meter) -> Meter {
@@ -36,14 +36,14 @@ fn after_offers(m: Meter) -> Meter {
     m
 }
 
-pub fn runs() {
+pub fn runs(rt: &impl Print) {
     let all = [DEMAND; 1_000_000];
     let more = [DEMAND; 1_000_001];
-    run(b"run of 1000000 of 6:", &all);
-    run(b"run of 1000001 of 6:", &more);
+    run(rt, b"run of 1000000 of 6:", &all);
+    run(rt, b"run of 1000001 of 6:", &more);
 }
 
-fn run(name: &[u8], demands: &[u16]) {
-    report::words(name);
-    print_meter(meter_run(bucket(), Factor { p: 1, q: 2 }, demands));
+fn run(rt: &impl Print, name: &[u8], demands: &[u16]) {
+    report::words(rt, name);
+    print_meter(rt, meter_run(bucket(), Factor { p: 1, q: 2 }, demands));
 }

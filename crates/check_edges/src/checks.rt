@@ -11,16 +11,16 @@ use samples::file_bytes::{LENT, LENT_BYTES, front, is_lent, lent_front};
 use samples::lent_records::{ENTRIES, filled};
 
 // A case: the first bytes of an order of some words, and of a plan.
-pub fn check_case(line: &[u8]) {
+pub fn check_case(rt: &impl Print, line: &[u8]) {
     let order = file_of(field(line, 4));
-    with_plan(line, front(&order, figure(field(line, 3), 0) as usize));
+    with_plan(rt, line, front(&order, figure(field(line, 3), 0) as usize));
 }
 
 // A case: an order of some tariff and trace, and the first bytes of a plan of some words.
-pub fn plan_case(line: &[u8]) {
+pub fn plan_case(rt: &impl Print, line: &[u8]) {
     let mut order = [LENT; LENT_BYTES];
     let length = put_order(line, &mut order);
-    with_plan(line, front(&order, length));
+    with_plan(rt, line, front(&order, length));
 }
 
 // Stores the order of a case's tariff and trace, and gives its length.
@@ -30,9 +30,9 @@ fn put_order(line: &[u8], file: &mut [u8]) -> usize {
     report::filled_of(write_order(tariff_of(field(line, 3)), demands(&room, count), file))
 }
 
-fn with_plan(line: &[u8], order: &[u8]) {
+fn with_plan(rt: &impl Print, line: &[u8], order: &[u8]) {
     let plan = file_of(field(line, 6));
-    named(
+    named(rt, 
         line,
         order,
         front(&plan, figure(field(line, 5), 0) as usize),
@@ -40,13 +40,13 @@ fn with_plan(line: &[u8], order: &[u8]) {
 }
 
 // A case: an order of some tariff and trace, and the plan that booking it records.
-pub fn booked_case(line: &[u8]) {
+pub fn booked_case(rt: &impl Print, line: &[u8]) {
     let mut order = [LENT; LENT_BYTES];
     let length = put_order(line, &mut order);
-    with_own(line, front(&order, length));
+    with_own(rt, line, front(&order, length));
 }
 
-fn with_own(line: &[u8], order: &[u8]) {
+fn with_own(rt: &impl Print, line: &[u8], order: &[u8]) {
     let mut demands = [LENT_DEMAND; ENTRIES];
     let mut plan = [LENT; LENT_BYTES];
     let answer = book_on(
@@ -59,7 +59,7 @@ fn with_own(line: &[u8], order: &[u8]) {
         ENTRIES,
     )
     .answer;
-    named(line, order, front(&plan, length_of(answer)));
+    named(rt, line, order, front(&plan, length_of(answer)));
 }
 
 // The length of a plan's file; 0 on a refusal.
@@ -71,57 +71,57 @@ fn length_of(answer: BookingAnswer) -> usize {
 }
 
 // The name of a case, the verdict, and the lines of it.
-fn named(line: &[u8], order: &[u8], plan: &[u8]) {
-    report::words(field(line, 1));
-    report::words(b":");
-    print_verdict(check(order, plan));
+fn named(rt: &impl Print, line: &[u8], order: &[u8], plan: &[u8]) {
+    report::words(rt, field(line, 1));
+    report::words(rt, b":");
+    print_verdict(rt, check(order, plan));
     let room = figure(field(line, 2), 0) as usize;
-    report::figure(b", line in", room as u64);
-    print_lines(order, plan, room);
+    report::figure(rt, b", line in", room as u64);
+    print_lines(rt, order, plan, room);
 }
 
-fn print_verdict(answer: CheckAnswer) {
+fn print_verdict(rt: &impl Print, answer: CheckAnswer) {
     match answer {
-        CheckAnswer::Yes(excess) => report::figure(b" yes", excess),
-        CheckAnswer::No => report::words(b" no"),
-        CheckAnswer::Refused(x) => report::refusal(x),
+        CheckAnswer::Yes(excess) => report::figure(rt, b" yes", excess),
+        CheckAnswer::No => report::words(rt, b" no"),
+        CheckAnswer::Refused(x) => report::refusal(rt, x),
     }
 }
 
 // The line of the two files, that of the plan behind the order in one file, and whether the rest of both
 // texts is kept.
-fn print_lines(order: &[u8], plan: &[u8], room: usize) {
+fn print_lines(rt: &impl Print, order: &[u8], plan: &[u8], room: usize) {
     let mut text = [LENT; LENT_BYTES];
     let answer = check_line(order, plan, lent_front(&mut text, room));
-    print_line(answer, &text);
+    print_line(rt, answer, &text);
     let mut files = [0u8; JOINED_BYTES];
     let length = put_files(&mut files, order, plan);
     let mut other = [LENT; LENT_BYTES];
     let same = check_files(joined(&files, length), lent_front(&mut other, room));
-    report::words(b", files");
-    print_line(same, &other);
-    report::kept(
+    report::words(rt, b", files");
+    print_line(rt, same, &other);
+    report::kept(rt, 
         is_lent(&text, report::filled_of(answer)) & is_lent(&other, report::filled_of(same)),
     );
 }
 
 // How many bytes were filled, and the line without its newline; or the refusal.
-fn print_line(answer: FillAnswer, text: &[u8; LENT_BYTES]) {
-    report::words(b":");
-    report::fill(answer);
+fn print_line(rt: &impl Print, answer: FillAnswer, text: &[u8; LENT_BYTES]) {
+    report::words(rt, b":");
+    report::fill(rt, answer);
     let length = report::filled_of(answer);
     if 0 < length {
-        report::words(b" ");
-        report::words(front(text, length - 1));
-        print_end(text, length - 1);
+        report::words(rt, b" ");
+        report::words(rt, front(text, length - 1));
+        print_end(rt, text, length - 1);
     }
 }
 
 // A line that ends with another byte than a newline is told.
-fn print_end(text: &[u8; LENT_BYTES], last: usize) {
+fn print_end(rt: &impl Print, text: &[u8; LENT_BYTES], last: usize) {
     if last < LENT_BYTES {
         if text[last] != b'\n' {
-            report::words(b" without newline");
+            report::words(rt, b" without newline");
         }
     }
 }

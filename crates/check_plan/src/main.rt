@@ -10,17 +10,18 @@ use plan_file::LONGEST_PLAN;
 // One byte more than the two longest files, so that a byte behind them is seen.
 const FILES_ROOM: usize = LONGEST_ORDER + LONGEST_PLAN + 1;
 
-fn main() {
+fn main(rt: HostRuntime) {
     if !has_words(
+        &rt,
         1,
-        b"use: check_plan < FILES (an order file and, behind it, a plan file on standard input)\n",
-        b"check_plan: write",
+        "use: check_plan < FILES (an order file and, behind it, a plan file on standard input)\n",
+        "check_plan: write",
     ) {
         return;
     }
     let mut files = [0u8; FILES_ROOM];
-    let length = read_all(&mut files, b"check_plan: standard input");
+    let length = read_all(&rt, &mut files, "check_plan: standard input");
     let mut text = [0u8; LONGEST_VERDICT];
     let answer = check_files(&files[..length], &mut text);
-    print(answer, &text, b"check_plan: write");
+    print(&rt, answer, &text, "check_plan: write");
 }

@@ -1,41 +1,63 @@
 // A program's arguments: how many there are, whether one is a certain word, and the number that one stands
 // for. Public only for the programs.
 use crate::put;
-use check::same;
-use libc::{STDERR_FILENO, STDOUT_FILENO};
+use crate::reasons::say;
+use std::env::FillError;
+use std::rt::Env;
 use typed_figures::{NumberAnswer, number_of};
 
 // Whether the program was started with that many words, its own name among them. Where it was not,
 // its use goes to standard error, or to standard output where --help is the only argument.
-pub fn has_words(count: usize, usage: &[u8], what: &[u8]) -> bool {
-    if (os::arg_count() == 2) & is_word(1, b"--help") {
-        put(STDOUT_FILENO, usage, what);
+pub fn has_words(rt: &(impl Env + Print + Eprint), count: usize, usage: &str, what: &str) -> bool {
+    if is_started_with(rt, 2) & is_word(rt, 1, "--help") {
+        put(rt, rt, usage.as_bytes(), what);
         return false;
     }
-    if os::arg_count() == count {
+    if is_started_with(rt, count) {
         return true;
     }
-    put(STDERR_FILENO, usage, what);
+    complain(rt, usage, what);
     false
+}
+
+fn is_started_with(rt: &impl Env, count: usize) -> bool {
+    !is_there(rt, count) & ((count == 0) || is_there(rt, count - 1))
+}
+
+fn is_there(rt: &impl Env, index: usize) -> bool {
+    let mut room = [0u8; 1];
+    !matches!(rt.arg(index, &mut room), Err(FillError::NotPresent))
 }
 
 // The bytes of an argument; a longer one counts as empty.
 const WORD_ROOM: usize = 64;
 
 // Whether an argument is that word.
-pub fn is_word(index: usize, word: &[u8]) -> bool {
+pub fn is_word(rt: &impl Env, index: usize, word: &str) -> bool {
     let mut room = [0u8; WORD_ROOM];
-    let length = os::arg(index, &mut room);
-    same(&room[..length], word)
+    let length = rt.arg(index, &mut room).unwrap_or(0);
+    &room[..length] == word.as_bytes()
 }
 
 // The number that an argument stands for; where it is none, the fault goes to standard error.
-pub fn number_argument(index: usize, fault: &[u8], what: &[u8]) -> NumberAnswer {
+pub fn number_argument(
+    rt: &(impl Env + Eprint),
+    index: usize,
+    fault: &str,
+    what: &str,
+) -> NumberAnswer {
     let mut room = [0u8; WORD_ROOM];
-    let length = os::arg(index, &mut room);
+    let length = rt.arg(index, &mut room).unwrap_or(0);
     let NumberAnswer::Number(number) = number_of(&room[..length]) else {
-        put(STDERR_FILENO, fault, what);
+        complain(rt, fault, what);
         return NumberAnswer::NoNumber;
     };
     NumberAnswer::Number(number)
+}
+
+// Writes a line to standard error, and says so where that fails.
+fn complain(rt: &impl Eprint, line: &str, what: &str) {
+    if let Err(error) = rt.eprint(line) {
+        say(rt, what, &error);
+    }
 }

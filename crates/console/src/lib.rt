@@ -5,15 +5,20 @@
 #![tactic(auto)]
 
 mod arguments;
+mod reasons;
 
-ghost use Rattle.io.specs.Counts.{IsPrefixLen};
+ghost use Rattle.console.specs.Counts.{IsPrefixLen};
 
 pub use arguments::{has_words, is_word, number_argument};
 use encoding::FillAnswer;
-use libc::{STDERR_FILENO, STDIN_FILENO, STDOUT_FILENO};
 use order_file::LONGEST_ORDER;
+use reasons::say;
+use std::io::Read;
 use terms::Refusal;
 use text::{LONGEST_REFUSAL, refusal_line};
+
+// The room for a text, or for the cases of a test program.
+pub const INPUT_ROOM: usize = 65_536;
 
 // One byte more than the longest order, so that a byte behind it is seen.
 pub const ORDER_ROOM: usize = LONGEST_ORDER + 1;
@@ -21,52 +26,51 @@ pub const ORDER_ROOM: usize = LONGEST_ORDER + 1;
 // Reads all of standard input, in whatever pieces it comes, or as much of it as there is room for.
 // Where a read fails, it says so and nothing counts as read: a part of an order could pass for another
 // order.
-pub fn read_all(room: &mut [u8], what: &[u8]) -> usize
+pub fn read_all(rt: &(impl Input + Eprint), room: &mut [u8], what: &str) -> usize
     ensures { IsPrefixLen result room.new }
 {
+    let mut from = rt.reader();
     let mut done = 0;
     while done < room.len() {
-        let got = libc::read(STDIN_FILENO, &mut room[done..]);
-        if got < 0 {
-            os::fail(what);
-            return 0;
+        match from.read(&mut room[done..]) {
+            Ok(0) => return done,
+            Ok(more) => done += more,
+            Err(error) => {
+                say(rt, what, &error);
+                return 0;
+            }
         }
-        let more = io::count(got, room);
-        if more == 0 {
-            return done;
-        }
-        done += more;
     }
     done
 }
 
 // Writes the text that a call has filled to standard output, or the refusal line.
-pub fn print(answer: FillAnswer, text: &[u8], what: &[u8]) {
+pub fn print(rt: &(impl Print + Eprint), answer: FillAnswer, text: &[u8], what: &str) {
     match answer {
-        FillAnswer::Filled(length) => put_front(STDOUT_FILENO, text, length, what),
-        FillAnswer::Refused(why) => refuse(STDOUT_FILENO, why, what),
+        FillAnswer::Filled(length) => put_front(rt, rt, text, length, what),
+        FillAnswer::Refused(why) => refuse(rt, rt, why, what),
     }
 }
 
 // Writes the front of some bytes, as long as a call has answered.
-pub fn put_front(fd: i32, bytes: &[u8], length: usize, what: &[u8]) {
+pub fn put_front(rt: &impl Eprint, to: &impl Print, bytes: &[u8], length: usize, what: &str) {
     if length <= bytes.len() {
-        put(fd, &bytes[..length], what);
+        put(rt, to, &bytes[..length], what);
     }
 }
 
 // Writes the refusal line.
-pub fn refuse(fd: i32, why: Refusal, what: &[u8]) {
+pub fn refuse(rt: &impl Eprint, to: &impl Print, why: Refusal, what: &str) {
     let mut line = [0u8; LONGEST_REFUSAL];
     let FillAnswer::Filled(length) = refusal_line(why, &mut line) else {
         return;
     };
-    put_front(fd, &line, length, what);
+    put_front(rt, to, &line, length, what);
 }
 
 // Writes all of some bytes, and says so where that fails.
-pub fn put(fd: i32, bytes: &[u8], what: &[u8]) {
-    if !io::write_all(fd, bytes) {
-        os::fail(what);
+pub fn put(rt: &impl Eprint, to: &impl Print, bytes: &[u8], what: &str) {
+    if let Err(error) = to.write_all(bytes) {
+        say(rt, what, &error);
     }
 }

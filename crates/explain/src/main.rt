@@ -7,28 +7,30 @@ use services::{LONGEST_EXPLAINED, explain_line};
 use terms::Rate;
 use typed_figures::NumberAnswer;
 
-fn main() {
+fn main(rt: HostRuntime) {
     if !has_words(
+        &rt,
         2,
-        b"use: explain RATE < ORDER (kilobits; an order file on standard input)\n",
-        b"explain: write",
+        "use: explain RATE < ORDER (kilobits; an order file on standard input)\n",
+        "explain: write",
     ) {
         return;
     }
     let NumberAnswer::Number(rate) = number_argument(
+        &rt,
         1,
-        b"explain: RATE is a whole number of kilobits, 0 to 4294967295 (refused 5)\n",
-        b"explain: write",
+        "explain: RATE is a whole number of kilobits, 0 to 4294967295 (refused 5)\n",
+        "explain: write",
     ) else {
         return;
     };
-    print_explained(Rate(rate));
+    print_explained(&rt, Rate(rate));
 }
 
-fn print_explained(rate: Rate) {
+fn print_explained(rt: &(impl Input + Print + Eprint), rate: Rate) {
     let mut order = [0u8; ORDER_ROOM];
-    let length = read_all(&mut order, b"explain: standard input");
+    let length = read_all(rt, &mut order, "explain: standard input");
     let mut text = [0u8; LONGEST_EXPLAINED];
     let answer = explain_line(&order[..length], rate, &mut text);
-    print(answer, &text, b"explain: write");
+    print(rt, answer, &text, "explain: write");
 }

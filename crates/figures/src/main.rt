@@ -5,73 +5,73 @@
 use cases::{
     DEMANDS, bucket_of, demands, factor_of, field, figure, first, line, lines, tariff_of, trace,
 };
-use console::read_all;
+use console::{INPUT_ROOM, read_all};
 use list_calls::series_on;
 use metqoraz::{BucketRecord, LONGEST_FIGURE, MeterAnswer, Rate, Tariff};
 use samples::file_bytes::front;
 use samples::lent_records::{ENTRIES, record_of};
 
-fn main() {
-    let mut input = io::large_buffer();
-    let length = read_all(&mut input, b"figures: standard input");
-    each_case(&input[..length]);
-    row_j();
-    row_l();
+fn main(rt: HostRuntime) {
+    let mut input = [0u8; INPUT_ROOM];
+    let length = read_all(&rt, &mut input, "figures: standard input");
+    each_case(&rt, &input[..length]);
+    row_j(&rt);
+    row_l(&rt);
 }
 
-fn each_case(input: &[u8]) {
+fn each_case(rt: &impl Print, input: &[u8]) {
     for n in 0..lines(input) {
-        case(line(input, n));
+        case(rt, line(input, n));
     }
 }
 
 // A row: its name, and the answer.
-fn case(line: &[u8]) {
+fn case(rt: &impl Print, line: &[u8]) {
     let kind = first(line);
     if kind == b'#' {
         return;
     }
     let mut room = [0u16; DEMANDS];
     let count = trace(field(line, 3), &mut room);
-    report::words(field(line, 1));
+    report::words(rt, field(line, 1));
     let rate = Rate(figure(field(line, 4), 0));
-    answer(kind, field(line, 2), demands(&room, count), rate);
+    answer(rt, kind, field(line, 2), demands(&room, count), rate);
 }
 
-fn answer(kind: u8, figures: &[u8], trace: &[u16], rate: Rate) {
+fn answer(rt: &impl Print, kind: u8, figures: &[u8], trace: &[u16], rate: Rate) {
     match kind {
-        b'd' => report::depth(metqoraz::depth_at(trace, rate, tariff_of(figures))),
-        b'e' => report::depth(metqoraz::depth_from_end(trace, rate, tariff_of(figures))),
-        b'c' => report::explained(metqoraz::explain(trace, rate, tariff_of(figures))),
-        b'b' => report::single(metqoraz::single(trace, tariff_of(figures))),
-        b't' => report::trial(metqoraz::trial(bucket_of(figures), factor_of(figures), trace)),
-        b's' => print_series(trace, tariff_of(figures)),
-        _ => report::words(b": no such case\n"),
+        b'd' => report::depth(rt, metqoraz::depth_at(trace, rate, tariff_of(figures))),
+        b'e' => report::depth(rt, metqoraz::depth_from_end(trace, rate, tariff_of(figures))),
+        b'c' => report::explained(rt, metqoraz::explain(trace, rate, tariff_of(figures))),
+        b'b' => report::single(rt, metqoraz::single(trace, tariff_of(figures))),
+        b't' => report::trial(rt, metqoraz::trial(bucket_of(figures), factor_of(figures), trace)),
+        b's' => print_series(rt, trace, tariff_of(figures)),
+        _ => report::words(rt, b": no such case\n"),
     }
 }
 
 // The series of at most three periods, and each of its buckets.
-fn print_series(trace: &[u16], tariff: Tariff) {
+fn print_series(rt: &impl Print, trace: &[u16], tariff: Tariff) {
     let lent = series_on(trace, tariff, [record_of(0, 0, 0); ENTRIES], 3);
     let answer = lent.answer;
     let list = lent.list;
-    report::series(answer);
-    print_bucket(list[0]);
-    print_bucket(list[1]);
-    print_bucket(list[2]);
-    report::end_line();
+    report::series(rt, answer);
+    print_bucket(rt, list[0]);
+    print_bucket(rt, list[1]);
+    print_bucket(rt, list[2]);
+    report::end_line(rt);
 }
 
 // A bucket, where its run has any period.
-fn print_bucket(x: BucketRecord) {
+fn print_bucket(rt: &impl Print, x: BucketRecord) {
     if 0 < x.periods {
-        report::record(x);
+        report::record(rt, x);
     }
 }
 
 // A meter of rate 5 and depth 4, offered 4, 8, 2 and 9: sent, over, lost, tokens held.
-fn row_j() {
-    report::words(b"J");
+fn row_j(rt: &impl Print) {
+    report::words(rt, b"J");
     let bucket = b"5 4 1 2";
     let a = metqoraz::open_meter(bucket_of(bucket), factor_of(bucket));
     match a {
@@ -80,27 +80,27 @@ fn row_j() {
             let m = metqoraz::offer(m, 8).meter;
             let m = metqoraz::offer(m, 2).meter;
             let m = metqoraz::offer(m, 9).meter;
-            report::totals(m.sent, m.over, m.lost, m.held as u64);
+            report::totals(rt, m.sent, m.over, m.lost, m.held as u64);
         }
-        MeterAnswer::Refused(x) => report::refusal(x),
+        MeterAnswer::Refused(x) => report::refusal(rt, x),
     }
-    report::end_line();
+    report::end_line(rt);
 }
 
 // Minus one half, one half, nothing, and minus one and a half megabits.
-fn row_l() {
-    report::words(b"L");
-    megabits(-500);
-    megabits(500);
-    megabits(0);
-    megabits(-1500);
-    report::end_line();
+fn row_l(rt: &impl Print) {
+    report::words(rt, b"L");
+    megabits(rt, -500);
+    megabits(rt, 500);
+    megabits(rt, 0);
+    megabits(rt, -1500);
+    report::end_line(rt);
 }
 
 // A space and a figure in megabits.
-fn megabits(z: i64) {
+fn megabits(rt: &impl Print, z: i64) {
     let mut text = [0u8; LONGEST_FIGURE];
     let answer = metqoraz::megabits(z, &mut text);
-    report::words(b" ");
-    report::words(front(&text, report::filled_of(answer)));
+    report::words(rt, b" ");
+    report::words(rt, front(&text, report::filled_of(answer)));
 }

@@ -5,35 +5,35 @@
 
 mod faults;
 
-use console::{has_words, put_front, read_all};
-use libc::STDOUT_FILENO;
+use console::{INPUT_ROOM, has_words, put_front, read_all};
 use order_file::LONGEST_ORDER;
 use order_text::{TextAnswer, order_of_text};
 
-fn main() {
+fn main(rt: HostRuntime) {
     if !has_words(
+        &rt,
         1,
-        b"use: order < TEXT > ORDER (figures as decimal text on standard input)\n",
-        b"order: write",
+        "use: order < TEXT > ORDER (figures as decimal text on standard input)\n",
+        "order: write",
     ) {
         return;
     }
-    let mut text = io::large_buffer();
-    let length = read_all(&mut text, b"order: standard input");
+    let mut text = [0u8; INPUT_ROOM];
+    let length = read_all(&rt, &mut text, "order: standard input");
     // a buffer that is full may leave text behind
     if length == text.len() {
-        faults::long_text();
+        faults::long_text(&rt);
         return;
     }
-    write_order(&text[..length]);
+    write_order(&rt, &text[..length]);
 }
 
-fn write_order(text: &[u8]) {
+fn write_order(rt: &(impl Print + Eprint), text: &[u8]) {
     let mut file = [0; LONGEST_ORDER];
     match order_of_text(text, &mut file) {
-        TextAnswer::Written(length) => put_front(STDOUT_FILENO, &file, length, b"order: write"),
-        TextAnswer::Faulty(fault) => faults::say(fault, text),
+        TextAnswer::Written(length) => put_front(rt, rt, &file, length, "order: write"),
+        TextAnswer::Faulty(fault) => faults::say(rt, fault, text),
         // never: the bytes are as many as the longest file has
-        TextAnswer::Refused(refusal) => faults::refused(refusal),
+        TextAnswer::Refused(refusal) => faults::refused(rt, refusal),
     }
 }

@@ -5,29 +5,29 @@ use samples::file_bytes::summed;
 use samples::lent_records::{ENTRIES, at_most};
 
 // How many demands there are, and the first.
-pub fn print_length(trace: &[u16]) {
-    report::words(b"trace of");
-    report::number(trace.len() as u64);
+pub fn print_length(rt: &impl Print, trace: &[u16]) {
+    report::words(rt, b"trace of");
+    report::number(rt, trace.len() as u64);
     if 0 < trace.len() {
-        report::words(b" from");
-        print_demand(trace[0]);
+        report::words(rt, b" from");
+        print_demand(rt, trace[0]);
     }
 }
 
-pub fn print_demand(d: u16) {
-    report::number(d as u64);
+pub fn print_demand(rt: &impl Print, d: u16) {
+    report::number(rt, d as u64);
 }
 
 // How many demands were filled and their checksum, or the refusal; then whether every entry after
 // those filled is as it was lent.
-pub fn print_list(answer: FillAnswer, list: &[u16; ENTRIES]) {
+pub fn print_list(rt: &impl Print, answer: FillAnswer, list: &[u16; ENTRIES]) {
     let count = report::filled_of(answer);
-    report::fill(answer);
+    report::fill(rt, answer);
     if 0 < count {
-        report::words(b" checksum");
-        report::number(checksum(list, count) as u64);
+        report::words(rt, b" checksum");
+        report::number(rt, checksum(list, count) as u64);
     }
-    report::kept(are_lent(list, count));
+    report::kept(rt, are_lent(list, count));
 }
 
 // A number that each of the first demands and its place enter.

@@ -5,19 +5,19 @@ use cases::{DEMANDS, demands, trace};
 use order_file::LONGEST_ORDER;
 
 // The longest order, one byte less and one more; and a file for 513 periods, right but for that.
-pub fn edges() {
+pub fn edges(rt: &impl Print) {
     let mut room = [0u16; DEMANDS];
     let count = trace(b"uneven", &mut room);
-    let mut bytes = written(demands(&room, count));
-    cut(bytes, LONGEST_ORDER - 1);
-    cut(bytes, LONGEST_ORDER + 1);
+    let mut bytes = written(rt, demands(&room, count));
+    cut(rt, bytes, LONGEST_ORDER - 1);
+    cut(rt, bytes, LONGEST_ORDER + 1);
     bytes[4] = 1;
     bytes[16] = 50;
-    cut(bytes, LONGEST_ORDER + 2);
+    cut(rt, bytes, LONGEST_ORDER + 2);
 }
 
 // A megabyte of 0.
-pub fn megabyte() {
+pub fn megabyte(rt: &impl Print) {
     let bytes = [0u8; 1_048_576];
-    reading(&bytes);
+    reading(rt, &bytes);
 }

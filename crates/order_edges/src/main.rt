@@ -11,31 +11,31 @@ mod spreads;
 mod written;
 
 use cases::{field, figure, first, line, lines};
-use console::read_all;
+use console::{INPUT_ROOM, read_all};
 
-fn main() {
-    printed::case();
-    let mut input = io::large_buffer();
-    let length = read_all(&mut input, b"order_edges: standard input");
-    each_case(&input[..length]);
-    longest::edges();
-    longest::megabyte();
+fn main(rt: HostRuntime) {
+    printed::case(&rt);
+    let mut input = [0u8; INPUT_ROOM];
+    let length = read_all(&rt, &mut input, "order_edges: standard input");
+    each_case(&rt, &input[..length]);
+    longest::edges(&rt);
+    longest::megabyte(&rt);
 }
 
-fn each_case(input: &[u8]) {
+fn each_case(rt: &impl Print, input: &[u8]) {
     for n in 0..lines(input) {
-        case(line(input, n));
+        case(rt, line(input, n));
     }
 }
 
-fn case(line: &[u8]) {
+fn case(rt: &impl Print, line: &[u8]) {
     match first(line) {
-        b'r' => readings::read_case(line),
-        b'w' => written::write_case(line),
-        b'f' => written::file_case(line),
-        b's' => spreads::edge(entries(field(line, 1)), entries(field(line, 2))),
+        b'r' => readings::read_case(rt, line),
+        b'w' => written::write_case(rt, line),
+        b'f' => written::file_case(rt, line),
+        b's' => spreads::edge(rt, entries(field(line, 1)), entries(field(line, 2))),
         b'#' => {}
-        _ => report::words(b"no such case\n"),
+        _ => report::words(rt, b"no such case\n"),
     }
 }
 

@@ -5,19 +5,19 @@ use order_file::{read_order, trace_part};
 use samples::file_bytes::front;
 
 // A case: its name, and the first bytes of the file read.
-pub fn read_case(line: &[u8]) {
+pub fn read_case(rt: &impl Print, line: &[u8]) {
     let file = file_of(field(line, 3));
-    report::words(field(line, 1));
-    reading(front(&file, entries(field(line, 2))));
+    report::words(rt, field(line, 1));
+    reading(rt, front(&file, entries(field(line, 2))));
 }
 
 // The figures or the refusal, and the length of its trace's part.
-pub fn reading(file: &[u8]) {
-    report::figure(b"bytes", file.len() as u64);
-    report::words(b" read:");
-    report::order(read_order(file));
+pub fn reading(rt: &impl Print, file: &[u8]) {
+    report::figure(rt, b"bytes", file.len() as u64);
+    report::words(rt, b" read:");
+    report::order(rt, read_order(file));
     let part = trace_part(file);
-    report::words(b", trace part");
-    report::number(part.len() as u64);
-    report::end_line();
+    report::words(rt, b", trace part");
+    report::number(rt, part.len() as u64);
+    report::end_line(rt);
 }

@@ -11,16 +11,16 @@ use samples::lent_records::ENTRIES;
 const PART_BYTES: usize = 1026;
 
 // One edge: a part of so many bytes, spread into a list of so many entries.
-pub fn edge(part: usize, list: usize) {
+pub fn edge(rt: &impl Print, part: usize, list: usize) {
     let bytes = part_bytes();
     let mut demands = [LENT_DEMAND; ENTRIES];
     let answer = spread(front(&bytes, part), lent_demands(&mut demands, list));
-    report::words(b"part of");
-    report::number(part as u64);
-    report::words(b" in a list of");
-    report::number(list as u64);
-    report::words(b":");
-    print_list(answer, &demands);
+    report::words(rt, b"part of");
+    report::number(rt, part as u64);
+    report::words(rt, b" in a list of");
+    report::number(rt, list as u64);
+    report::words(rt, b":");
+    print_list(rt, answer, &demands);
 }
 
 // Bytes in no order.

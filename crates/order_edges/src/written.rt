@@ -11,60 +11,60 @@ use samples::tariffs::printed_case;
 use terms::Tariff;
 
 // An order written into so many bytes.
-pub fn write_case(line: &[u8]) {
+pub fn write_case(rt: &impl Print, line: &[u8]) {
     let mut room = [0u16; DEMANDS];
     let count = trace(field(line, 2), &mut room);
-    write(
+    write(rt, 
         tariff_of(field(line, 1)),
         demands(&room, count),
         entries(field(line, 3)),
     );
 }
 
-fn write(tariff: Tariff, trace: &[u16], lent: usize) {
+fn write(rt: &impl Print, tariff: Tariff, trace: &[u16], lent: usize) {
     let mut bytes = [LENT; LENT_BYTES];
     let answer = write_order(tariff, trace, lent_front(&mut bytes, lent));
-    print_length(trace);
-    report::words(b" at");
-    report::tariff(tariff);
-    report::figure(b" into", lent as u64);
-    report::words(b":");
-    report::written(answer, &bytes);
+    print_length(rt, trace);
+    report::words(rt, b" at");
+    report::tariff(rt, tariff);
+    report::figure(rt, b" into", lent as u64);
+    report::words(rt, b":");
+    report::written(rt, answer, &bytes);
 }
 
 // An order in three lines: written, its file read, and its trace's part spread.
-pub fn file_case(line: &[u8]) {
+pub fn file_case(rt: &impl Print, line: &[u8]) {
     let mut room = [0u16; DEMANDS];
     let count = trace(field(line, 1), &mut room);
-    file(demands(&room, count), entries(field(line, 2)));
+    file(rt, demands(&room, count), entries(field(line, 2)));
 }
 
-fn file(trace: &[u16], length: usize) {
-    let bytes = written(trace);
-    cut(bytes, length);
-    spread_back(bytes, length, trace);
+fn file(rt: &impl Print, trace: &[u16], length: usize) {
+    let bytes = written(rt, trace);
+    cut(rt, bytes, length);
+    spread_back(rt, bytes, length, trace);
 }
 
-pub fn written(trace: &[u16]) -> [u8; LENT_BYTES] {
+pub fn written(rt: &impl Print, trace: &[u16]) -> [u8; LENT_BYTES] {
     let mut bytes = [LENT; LENT_BYTES];
     let answer = write_order(printed_case(), trace, &mut bytes);
-    print_length(trace);
-    report::words(b" written:");
-    report::written(answer, &bytes);
+    print_length(rt, trace);
+    report::words(rt, b" written:");
+    report::written(rt, answer, &bytes);
     bytes
 }
 
-pub fn cut(bytes: [u8; LENT_BYTES], length: usize) {
-    reading(front(&bytes, length));
+pub fn cut(rt: &impl Print, bytes: [u8; LENT_BYTES], length: usize) {
+    reading(rt, front(&bytes, length));
 }
 
-fn spread_back(bytes: [u8; LENT_BYTES], length: usize, trace: &[u16]) {
+fn spread_back(rt: &impl Print, bytes: [u8; LENT_BYTES], length: usize, trace: &[u16]) {
     let mut list = [LENT_DEMAND; ENTRIES];
     let answer = spread(trace_part(front(&bytes, length)), &mut list);
     if is_front(trace, &list) {
-        report::words(b"spread as written:");
+        report::words(rt, b"spread as written:");
     } else {
-        report::words(b"spread otherwise:");
+        report::words(rt, b"spread otherwise:");
     }
-    print_list(answer, &list);
+    print_list(rt, answer, &list);
 }

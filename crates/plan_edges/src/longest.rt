@@ -6,15 +6,15 @@ use samples::file_bytes::{LENT, LENT_BYTES, front, lent_front};
 use samples::lent_records::{ENTRIES, counted, filled};
 use terms::BucketRecord;
 
-pub fn edges() {
-    written(LONGEST_PLAN - 1);
-    written(LONGEST_PLAN + 1);
-    let bytes = written(LONGEST_PLAN);
-    read_into(front(&bytes, LONGEST_PLAN - 1), 512);
-    read_into(front(&bytes, LONGEST_PLAN), 511);
-    read_into(front(&bytes, LONGEST_PLAN), 512);
-    read_into(front(&bytes, LONGEST_PLAN + 1), 512);
-    again(bytes);
+pub fn edges(rt: &impl Print) {
+    written(rt, LONGEST_PLAN - 1);
+    written(rt, LONGEST_PLAN + 1);
+    let bytes = written(rt, LONGEST_PLAN);
+    read_into(rt, front(&bytes, LONGEST_PLAN - 1), 512);
+    read_into(rt, front(&bytes, LONGEST_PLAN), 511);
+    read_into(rt, front(&bytes, LONGEST_PLAN), 512);
+    read_into(rt, front(&bytes, LONGEST_PLAN + 1), 512);
+    again(rt, bytes);
 }
 
 // Runs of one period, rates from 3,500 on and depths from 700 on.
@@ -23,7 +23,7 @@ fn buckets() -> [BucketRecord; ENTRIES] {
 }
 
 // The plan written into so many bytes.
-fn written(length: usize) -> [u8; LENT_BYTES] {
+fn written(rt: &impl Print, length: usize) -> [u8; LENT_BYTES] {
     let plan = PlanFigures {
         periods: 512,
         buckets: 512,
@@ -31,27 +31,27 @@ fn written(length: usize) -> [u8; LENT_BYTES] {
     };
     let mut bytes = [LENT; LENT_BYTES];
     let answer = write_on(plan, buckets(), ENTRIES, lent_front(&mut bytes, length));
-    report::words(b"512 buckets into");
-    report::number(length as u64);
-    report::words(b":");
-    report::written(answer, &bytes);
+    report::words(rt, b"512 buckets into");
+    report::number(rt, length as u64);
+    report::words(rt, b":");
+    report::written(rt, answer, &bytes);
     bytes
 }
 
 // The file read, and what was read written again.
-fn again(bytes: [u8; LENT_BYTES]) {
+fn again(rt: &impl Print, bytes: [u8; LENT_BYTES]) {
     let lent = read_on(front(&bytes, LONGEST_PLAN), filled(), ENTRIES);
     let answer = lent.answer;
     let list = lent.list;
-    report::words(b"read and written again:");
+    report::words(rt, b"read and written again:");
     match answer {
-        PlanAnswer::Read(plan) => written_again(plan, list),
-        PlanAnswer::Refused(x) => report::refusal(x),
+        PlanAnswer::Read(plan) => written_again(rt, plan, list),
+        PlanAnswer::Refused(x) => report::refusal(rt, x),
     }
 }
 
-fn written_again(plan: PlanFigures, list: [BucketRecord; ENTRIES]) {
+fn written_again(rt: &impl Print, plan: PlanFigures, list: [BucketRecord; ENTRIES]) {
     let mut bytes = [LENT; LENT_BYTES];
     let answer = write_on(plan, list, ENTRIES, &mut bytes);
-    report::written(answer, &bytes);
+    report::written(rt, answer, &bytes);
 }

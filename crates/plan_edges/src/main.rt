@@ -9,28 +9,28 @@ mod readings;
 mod writing;
 
 use cases::{field, figure, first, line, lines};
-use console::read_all;
+use console::{INPUT_ROOM, read_all};
 
-fn main() {
-    printed::case();
-    let mut input = io::large_buffer();
-    let length = read_all(&mut input, b"plan_edges: standard input");
-    each_case(&input[..length]);
-    longest::edges();
+fn main(rt: HostRuntime) {
+    printed::case(&rt);
+    let mut input = [0u8; INPUT_ROOM];
+    let length = read_all(&rt, &mut input, "plan_edges: standard input");
+    each_case(&rt, &input[..length]);
+    longest::edges(&rt);
 }
 
-fn each_case(input: &[u8]) {
+fn each_case(rt: &impl Print, input: &[u8]) {
     for n in 0..lines(input) {
-        case(line(input, n));
+        case(rt, line(input, n));
     }
 }
 
-fn case(line: &[u8]) {
+fn case(rt: &impl Print, line: &[u8]) {
     match first(line) {
-        b'r' => readings::read_case(line),
-        b'w' => writing::write_case(line),
+        b'r' => readings::read_case(rt, line),
+        b'w' => writing::write_case(rt, line),
         b'#' => {}
-        _ => report::words(b"no such case\n"),
+        _ => report::words(rt, b"no such case\n"),
     }
 }
 

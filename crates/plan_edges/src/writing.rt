@@ -8,8 +8,8 @@ use samples::file_bytes::{LENT, LENT_BYTES, lent_front};
 use samples::lent_records::{ENTRIES, record_of};
 use terms::BucketRecord;
 
-pub fn write_case(line: &[u8]) {
-    edge(
+pub fn write_case(rt: &impl Print, line: &[u8]) {
+    edge(rt, 
         plan(field(line, 1)),
         bucket(field(line, 2)),
         bucket(field(line, 3)),
@@ -31,31 +31,31 @@ fn bucket(field: &[u8]) -> BucketRecord {
 }
 
 // One edge: a plan of these figures and records, from a list of so many entries into so many bytes.
-fn edge(plan: PlanFigures, first: BucketRecord, last: BucketRecord, entries: usize, length: usize) {
+fn edge(rt: &impl Print, plan: PlanFigures, first: BucketRecord, last: BucketRecord, entries: usize, length: usize) {
     let mut list = [record_of(0, 9999, 2_000_000); ENTRIES];
     list[0] = first;
     list[1] = last;
     let mut bytes = [LENT; LENT_BYTES];
     let answer = write_on(plan, list, entries, lent_front(&mut bytes, length));
-    print_plan(plan, first, last);
-    report::figure(b"list of", entries as u64);
-    report::words(b", ");
-    report::words(b"into");
-    report::number(length as u64);
-    report::words(b":");
-    report::written(answer, &bytes);
+    print_plan(rt, plan, first, last);
+    report::figure(rt, b"list of", entries as u64);
+    report::words(rt, b", ");
+    report::words(rt, b"into");
+    report::number(rt, length as u64);
+    report::words(rt, b":");
+    report::written(rt, answer, &bytes);
 }
 
-fn print_plan(plan: PlanFigures, first: BucketRecord, last: BucketRecord) {
-    report::words(b"T");
-    report::number(plan.periods as u64);
-    report::words(b", k");
-    report::number(plan.buckets as u64);
-    report::words(b", cost");
-    report::number(plan.cost);
-    report::words(b",");
-    report::record(first);
-    report::words(b",");
-    report::record(last);
-    report::words(b", ");
+fn print_plan(rt: &impl Print, plan: PlanFigures, first: BucketRecord, last: BucketRecord) {
+    report::words(rt, b"T");
+    report::number(rt, plan.periods as u64);
+    report::words(rt, b", k");
+    report::number(rt, plan.buckets as u64);
+    report::words(rt, b", cost");
+    report::number(rt, plan.cost);
+    report::words(rt, b",");
+    report::record(rt, first);
+    report::words(rt, b",");
+    report::record(rt, last);
+    report::words(rt, b", ");
 }

@@ -6,10 +6,10 @@ use plan_file::PlanAnswer;
 use terms::Tariff;
 
 // How many entries or bytes were filled, or the refusal.
-pub fn fill(a: FillAnswer) {
+pub fn fill(rt: &impl Print, a: FillAnswer) {
     match a {
-        FillAnswer::Filled(n) => figure(b" filled", n as u64),
-        FillAnswer::Refused(x) => refusal(x),
+        FillAnswer::Filled(n) => figure(rt, b" filled", n as u64),
+        FillAnswer::Refused(x) => refusal(rt, x),
     }
 }
 
@@ -22,35 +22,35 @@ pub fn filled_of(a: FillAnswer) -> usize {
 }
 
 // An order's number of periods and its tariff, or the refusal.
-pub fn order(a: OrderAnswer) {
+pub fn order(rt: &impl Print, a: OrderAnswer) {
     match a {
         OrderAnswer::Read(x) => {
-            figure(b" periods", x.periods as u64);
-            tariff(x.tariff);
+            figure(rt, b" periods", x.periods as u64);
+            tariff(rt, x.tariff);
         }
-        OrderAnswer::Refused(x) => refusal(x),
+        OrderAnswer::Refused(x) => refusal(rt, x),
     }
 }
 
 // The seven figures, in document 01's order.
-pub fn tariff(t: Tariff) {
-    figure(b" rate price", t.rate_price.0 as u64);
-    figure(b" depth price", t.depth_price.0 as u64);
-    figure(b" fee", t.fee as u64);
-    figure(b" p", t.factor.p as u64);
-    figure(b" q", t.factor.q as u64);
-    figure(b" rate cap", t.rate_cap.0 as u64);
-    figure(b" depth cap", t.depth_cap.0 as u64);
+pub fn tariff(rt: &impl Print, t: Tariff) {
+    figure(rt, b" rate price", t.rate_price.0 as u64);
+    figure(rt, b" depth price", t.depth_price.0 as u64);
+    figure(rt, b" fee", t.fee as u64);
+    figure(rt, b" p", t.factor.p as u64);
+    figure(rt, b" q", t.factor.q as u64);
+    figure(rt, b" rate cap", t.rate_cap.0 as u64);
+    figure(rt, b" depth cap", t.depth_cap.0 as u64);
 }
 
 // A plan's number of periods, its number of buckets and its cost, or the refusal.
-pub fn plan(a: PlanAnswer) {
+pub fn plan(rt: &impl Print, a: PlanAnswer) {
     match a {
         PlanAnswer::Read(x) => {
-            figure(b" periods", x.periods as u64);
-            figure(b" buckets", x.buckets as u64);
-            figure(b" cost", x.cost);
+            figure(rt, b" periods", x.periods as u64);
+            figure(rt, b" buckets", x.buckets as u64);
+            figure(rt, b" cost", x.cost);
         }
-        PlanAnswer::Refused(x) => refusal(x),
+        PlanAnswer::Refused(x) => refusal(rt, x),
     }
 }

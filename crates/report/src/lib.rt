@@ -12,151 +12,149 @@ use depth::DepthAnswer;
 pub use file_answers::{fill, filled_of, order, plan, tariff};
 pub use file_bytes::{hex_lines, written};
 pub use lent_lists::{kept, list};
-use libc::STDOUT_FILENO;
 use series::SeriesAnswer;
 use single::SingleAnswer;
 use terms::{BucketRecord, Refusal};
 use text::figures::magnitude;
 
 // Words as they stand.
-pub fn words(text: &[u8]) {
-    io::write_all(STDOUT_FILENO, text);
+pub fn words(rt: &impl Print, text: &[u8]) {
+    let _ = rt.write_all(text);
 }
 
 // A space and a number.
-pub fn number(n: u64) {
-    words(b" ");
-    io::print_decimal(STDOUT_FILENO, n);
+pub fn number(rt: &impl Print, n: u64) {
+    let _ = print!(rt; " {n}");
 }
 
 // What a number is, and the number.
-pub fn figure(name: &[u8], n: u64) {
-    words(name);
-    number(n);
+pub fn figure(rt: &impl Print, name: &[u8], n: u64) {
+    words(rt, name);
+    number(rt, n);
 }
 
 // A space and a signed number.
-pub fn signed(z: i64) {
+pub fn signed(rt: &impl Print, z: i64) {
     if z < 0 {
-        words(b" -");
-        io::print_decimal(STDOUT_FILENO, magnitude(z));
+        let n = magnitude(z);
+        let _ = print!(rt; " -{n}");
     } else {
-        number(magnitude(z));
+        number(rt, magnitude(z));
     }
 }
 
-pub fn end_line() {
-    words(b"\n");
+pub fn end_line(rt: &impl Print) {
+    words(rt, b"\n");
 }
 
 // A line with the number of cases, and in how many of them two answers agreed.
-pub fn agreement(cases: u32, agreed: u32) {
-    words(b"cases");
-    number(cases as u64);
-    words(b" agreed");
-    number(agreed as u64);
-    end_line();
+pub fn agreement(rt: &impl Print, cases: u32, agreed: u32) {
+    words(rt, b"cases");
+    number(rt, cases as u64);
+    words(rt, b" agreed");
+    number(rt, agreed as u64);
+    end_line(rt);
 }
 
 // The word refused and the number.
-pub fn refusal(x: Refusal) {
-    words(b" refused");
-    number(terms::refusal_number(x) as u64);
+pub fn refusal(rt: &impl Print, x: Refusal) {
+    words(rt, b" refused");
+    number(rt, terms::refusal_number(x) as u64);
 }
 
 // Spare and discards, or the refusal.
-pub fn trial(a: TrialAnswer) {
+pub fn trial(rt: &impl Print, a: TrialAnswer) {
     match a {
         TrialAnswer::Found(t) => {
-            words(b" spare");
-            signed(t.spare);
-            words(b" over");
-            number(t.over as u64);
+            words(rt, b" spare");
+            signed(rt, t.spare);
+            words(rt, b" over");
+            number(rt, t.over as u64);
         }
-        TrialAnswer::Refused(x) => refusal(x),
+        TrialAnswer::Refused(x) => refusal(rt, x),
     }
-    end_line();
+    end_line(rt);
 }
 
 // What a meter sent, discarded, lost and holds; the line goes on.
-pub fn totals(sent: u64, over: u64, lost: u64, held: u64) {
-    figure(b" sent", sent);
-    figure(b" over", over);
-    figure(b" lost", lost);
-    figure(b" tokens", held);
+pub fn totals(rt: &impl Print, sent: u64, over: u64, lost: u64, held: u64) {
+    figure(rt, b" sent", sent);
+    figure(rt, b" over", over);
+    figure(rt, b" lost", lost);
+    figure(rt, b" tokens", held);
 }
 
 // The depth, or the refusal.
-pub fn depth(a: DepthAnswer) {
+pub fn depth(rt: &impl Print, a: DepthAnswer) {
     match a {
         DepthAnswer::Found(b) => {
-            words(b" depth");
-            number(b.0 as u64);
+            words(rt, b" depth");
+            number(rt, b.0 as u64);
         }
-        DepthAnswer::Refused(x) => refusal(x),
+        DepthAnswer::Refused(x) => refusal(rt, x),
     }
-    end_line();
+    end_line(rt);
 }
 
 // The depth and its cause, or the refusal.
-pub fn explained(a: ExplainAnswer) {
+pub fn explained(rt: &impl Print, a: ExplainAnswer) {
     match a {
         ExplainAnswer::Found(x) => {
             let set_by = x.cause;
-            figure(b" depth", x.depth.0 as u64);
-            cause(set_by);
+            figure(rt, b" depth", x.depth.0 as u64);
+            cause(rt, set_by);
         }
-        ExplainAnswer::Refused(x) => refusal(x),
+        ExplainAnswer::Refused(x) => refusal(rt, x),
     }
-    end_line();
+    end_line(rt);
 }
 
-fn cause(x: Cause) {
+fn cause(rt: &impl Print, x: Cause) {
     match x {
-        Cause::Nothing => words(b" nothing"),
-        Cause::Opening(o) => figure(b" opening", o.periods as u64),
+        Cause::Nothing => words(rt, b" nothing"),
+        Cause::Opening(o) => figure(rt, b" opening", o.periods as u64),
         Cause::Stretch(s) => {
-            figure(b" stretch", s.first as u64);
-            number(s.last as u64);
+            figure(rt, b" stretch", s.first as u64);
+            number(rt, s.last as u64);
         }
     }
 }
 
 // The bucket and its cost, or the refusal.
-pub fn single(a: SingleAnswer) {
+pub fn single(rt: &impl Print, a: SingleAnswer) {
     match a {
         SingleAnswer::Found(x) => {
-            words(b" rate");
-            number(x.bucket.rate.0 as u64);
-            words(b" depth");
-            number(x.bucket.depth.0 as u64);
-            words(b" cost");
-            number(x.cost);
+            words(rt, b" rate");
+            number(rt, x.bucket.rate.0 as u64);
+            words(rt, b" depth");
+            number(rt, x.bucket.depth.0 as u64);
+            words(rt, b" cost");
+            number(rt, x.cost);
         }
-        SingleAnswer::Refused(x) => refusal(x),
+        SingleAnswer::Refused(x) => refusal(rt, x),
     }
-    end_line();
+    end_line(rt);
 }
 
 // A plan's number of buckets and its cost, or the refusal; the line goes on.
-pub fn series(a: SeriesAnswer) {
+pub fn series(rt: &impl Print, a: SeriesAnswer) {
     match a {
         SeriesAnswer::Found(plan) => {
-            words(b" buckets");
-            number(plan.buckets as u64);
-            words(b" cost");
-            number(plan.cost);
+            words(rt, b" buckets");
+            number(rt, plan.buckets as u64);
+            words(rt, b" cost");
+            number(rt, plan.cost);
         }
-        SeriesAnswer::Refused(x) => refusal(x),
+        SeriesAnswer::Refused(x) => refusal(rt, x),
     }
 }
 
 // One bucket of a plan and the length of its run.
-pub fn record(x: BucketRecord) {
-    words(b" run");
-    number(x.periods as u64);
-    words(b" rate");
-    number(x.bucket.rate.0 as u64);
-    words(b" depth");
-    number(x.bucket.depth.0 as u64);
+pub fn record(rt: &impl Print, x: BucketRecord) {
+    words(rt, b" run");
+    number(rt, x.periods as u64);
+    words(rt, b" rate");
+    number(rt, x.bucket.rate.0 as u64);
+    words(rt, b" depth");
+    number(rt, x.bucket.depth.0 as u64);
 }

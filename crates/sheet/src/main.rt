@@ -4,17 +4,18 @@
 use console::{ORDER_ROOM, has_words, print, read_all};
 use sheets::LONGEST_SHEET;
 
-fn main() {
+fn main(rt: HostRuntime) {
     if !has_words(
+        &rt,
         1,
-        b"use: sheet < ORDER (an order file on standard input)\n",
-        b"sheet: write",
+        "use: sheet < ORDER (an order file on standard input)\n",
+        "sheet: write",
     ) {
         return;
     }
     let mut order = [0u8; ORDER_ROOM];
-    let length = read_all(&mut order, b"sheet: standard input");
+    let length = read_all(&rt, &mut order, "sheet: standard input");
     let mut text = [0u8; LONGEST_SHEET];
     let answer = sheets::sheet(&order[..length], &mut text);
-    print(answer, &text, b"sheet: write");
+    print(&rt, answer, &text, "sheet: write");
 }

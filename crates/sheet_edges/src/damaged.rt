@@ -12,38 +12,38 @@ use terms::Bucket;
 // The bytes of the printed case's order.
 const ORDER_BYTES: usize = 54;
 
-pub fn edges() {
+pub fn edges(rt: &impl Print) {
     let trace = CASE;
     let mut file = [LENT; FILE_ROOM];
     write_order(printed_case(), &trace, &mut file);
-    each_byte(file);
-    each_length(file, bucket_of(b"5 3"));
+    each_byte(rt, file);
+    each_length(rt, file, bucket_of(b"5 3"));
 }
 
 // Each byte one higher and one lower; 255 and 0 are neighbours.
-fn each_byte(file: [u8; FILE_ROOM]) {
+fn each_byte(rt: &impl Print, file: [u8; FILE_ROOM]) {
     for at in 0..ORDER_BYTES {
-        raised(file, at, file[at], 1);
-        raised(file, at, file[at], 255);
+        raised(rt, file, at, file[at], 1);
+        raised(rt, file, at, file[at], 255);
     }
 }
 
 // The byte there raised by so much.
-fn raised(file: [u8; FILE_ROOM], at: usize, byte: u8, by: u8)
+fn raised(rt: &impl Print, file: [u8; FILE_ROOM], at: usize, byte: u8, by: u8)
     requires { at < 54 }
 {
     let mut order = file;
     order[at] = ((byte as u32 + by as u32) % 256) as u8;
-    report::figure(b"byte", at as u64);
-    report::figure(b" raised by", by as u64);
-    sheet_in(front(&order, ORDER_BYTES), LENT_BYTES);
+    report::figure(rt, b"byte", at as u64);
+    report::figure(rt, b" raised by", by as u64);
+    sheet_in(rt, front(&order, ORDER_BYTES), LENT_BYTES);
 }
 
 // All services; where the order is refused, room or none makes no difference.
-fn each_length(file: [u8; FILE_ROOM], bucket: Bucket) {
+fn each_length(rt: &impl Print, file: [u8; FILE_ROOM], bucket: Bucket) {
     for length in 0..56 {
-        report::figure(b"bytes", length as u64);
-        report::end_line();
-        services(front(&file, length), bucket, length);
+        report::figure(rt, b"bytes", length as u64);
+        report::end_line(rt);
+        services(rt, front(&file, length), bucket, length);
     }
 }

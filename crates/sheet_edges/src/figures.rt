@@ -5,12 +5,12 @@ use samples::file_bytes::{LENT, LENT_BYTES, lent_front};
 use text::megabits;
 
 // The digits of a case behind its sign, and the room of a text that is one byte too short for the figure.
-pub fn figure_case(line: &[u8]) {
+pub fn figure_case(rt: &impl Print, line: &[u8]) {
     let short = figure(field(line, 2), 0) as usize;
     let figure = signed(field(line, 1));
-    figure_in(figure, short);
-    figure_in(figure, short + 1);
-    figure_in(figure, short + 2);
+    figure_in(rt, figure, short);
+    figure_in(rt, figure, short + 1);
+    figure_in(rt, figure, short + 2);
 }
 
 // A word as a signed number.
@@ -26,14 +26,14 @@ fn signed(word: &[u8]) -> i64 {
     !(((n - 1) % 9_223_372_036_854_775_808) as i64)
 }
 
-fn figure_in(figure: i64, room: usize) {
+fn figure_in(rt: &impl Print, figure: i64, room: usize) {
     let mut text = [LENT; LENT_BYTES];
     let answer = megabits(figure, lent_front(&mut text, room));
-    report::words(b"figure");
-    report::signed(figure);
-    report::figure(b" in", room as u64);
-    print(answer, &text);
+    report::words(rt, b"figure");
+    report::signed(rt, figure);
+    report::figure(rt, b" in", room as u64);
+    print(rt, answer, &text);
     if 0 < report::filled_of(answer) {
-        report::end_line();
+        report::end_line(rt);
     }
 }

@@ -7,9 +7,9 @@ use samples::tariffs::with_fee;
 use sheets::LONGEST_SHEET;
 use terms::Tariff;
 
-pub fn edges() {
-    longer();
-    widest();
+pub fn edges(rt: &impl Print) {
+    longer(rt);
+    widest(rt);
 }
 
 // The order's bytes with these prices, the feature being the trace.
@@ -22,11 +22,11 @@ fn feature_order(tariff: Tariff) -> [u8; LENT_BYTES] {
 }
 
 // A file for 513 periods, right but for that.
-fn longer() {
+fn longer(rt: &impl Print) {
     let mut file = feature_order(tariff_of(b"20 1 1000000 2 3 4095 1000000"));
     file[4] = 1;
     file[16] = 50;
-    services(
+    services(rt, 
         front(&file, LONGEST_ORDER + 2),
         bucket_of(b"4095 1000"),
         LENT_BYTES,
@@ -34,12 +34,12 @@ fn longer() {
 }
 
 // Each period has its own bucket, and the sheet needs more room than the other texts have.
-fn widest() {
+fn widest(rt: &impl Print) {
     let file = feature_order(with_fee(0));
     let mut text = [0u8; LONGEST_SHEET];
     let answer = sheets::sheet(front(&file, LONGEST_ORDER), &mut text);
-    report::words(b"widest:");
-    report::fill(answer);
-    report::end_line();
-    report::words(front(&text, report::filled_of(answer)));
+    report::words(rt, b"widest:");
+    report::fill(rt, answer);
+    report::end_line(rt);
+    report::words(rt, front(&text, report::filled_of(answer)));
 }

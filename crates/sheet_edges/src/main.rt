@@ -10,28 +10,28 @@ mod refusals;
 mod service_texts;
 
 use cases::{first, line, lines};
-use console::read_all;
+use console::{INPUT_ROOM, read_all};
 
-fn main() {
-    let mut input = io::large_buffer();
-    let length = read_all(&mut input, b"sheet_edges: standard input");
-    each_case(&input[..length]);
-    damaged::edges();
-    long::edges();
+fn main(rt: HostRuntime) {
+    let mut input = [0u8; INPUT_ROOM];
+    let length = read_all(&rt, &mut input, "sheet_edges: standard input");
+    each_case(&rt, &input[..length]);
+    damaged::edges(&rt);
+    long::edges(&rt);
 }
 
-fn each_case(input: &[u8]) {
+fn each_case(rt: &impl Print, input: &[u8]) {
     for n in 0..lines(input) {
-        case(line(input, n));
+        case(rt, line(input, n));
     }
 }
 
-fn case(line: &[u8]) {
+fn case(rt: &impl Print, line: &[u8]) {
     match first(line) {
-        b'f' => figures::figure_case(line),
-        b'r' => refusals::refusal_case(line),
-        b's' => service_texts::services_case(line),
+        b'f' => figures::figure_case(rt, line),
+        b'r' => refusals::refusal_case(rt, line),
+        b's' => service_texts::services_case(rt, line),
         b'#' => {}
-        _ => report::words(b"no such case\n"),
+        _ => report::words(rt, b"no such case\n"),
     }
 }

@@ -5,14 +5,14 @@ use samples::file_bytes::{LENT, LENT_BYTES, lent_front};
 use terms::{Refusal, refusal_number};
 use text::refusal_line;
 
-pub fn refusal_case(line: &[u8]) {
+pub fn refusal_case(rt: &impl Print, line: &[u8]) {
     let why = numbered(figure(field(line, 1), 0));
     let room = figure(field(line, 2), 0) as usize;
     let mut text = [LENT; LENT_BYTES];
     let answer = refusal_line(why, lent_front(&mut text, room));
-    report::figure(b"refusal", refusal_number(why) as u64);
-    report::figure(b" in", room as u64);
-    print(answer, &text);
+    report::figure(rt, b"refusal", refusal_number(why) as u64);
+    report::figure(rt, b" in", room as u64);
+    print(rt, answer, &text);
 }
 
 // The refusal with a number; the first where there is none.

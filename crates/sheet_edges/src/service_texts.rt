@@ -6,15 +6,15 @@ use samples::file_bytes::{LENT, LENT_BYTES, front, is_lent, lent_front};
 use terms::{Bucket, Rate, Tariff};
 
 // A case: its name in a line of its own, where it has one, and the texts.
-pub fn services_case(line: &[u8]) {
+pub fn services_case(rt: &impl Print, line: &[u8]) {
     let mut room = [0u16; DEMANDS];
     let count = trace(field(line, 3), &mut room);
     let name = field(line, 1);
     if 0 < name.len() {
-        report::words(name);
-        report::end_line();
+        report::words(rt, name);
+        report::end_line(rt);
     }
-    services_of(
+    services_of(rt, 
         tariff_of(field(line, 2)),
         demands(&room, count),
         bucket_of(field(line, 4)),
@@ -24,71 +24,71 @@ pub fn services_case(line: &[u8]) {
 
 // An order of this tariff and trace in all of them, the bucket being for the trial and its rate for the
 // depths.
-fn services_of(tariff: Tariff, trace: &[u16], bucket: Bucket, room: usize) {
+fn services_of(rt: &impl Print, tariff: Tariff, trace: &[u16], bucket: Bucket, room: usize) {
     let mut file = [LENT; LENT_BYTES];
     let answer = write_order(tariff, trace, &mut file);
-    services(front(&file, report::filled_of(answer)), bucket, room);
+    services(rt, front(&file, report::filled_of(answer)), bucket, room);
 }
 
 // The same of the bytes of an order.
-pub fn services(order: &[u8], bucket: Bucket, room: usize) {
-    report::figure(b"sheet in", room as u64);
-    sheet_in(order, room);
-    report::figure(b"single in", room as u64);
-    single_in(order, room);
-    report::figure(b"trial of", bucket.rate.0 as u64);
-    report::number(bucket.depth.0 as u64);
-    report::figure(b" in", room as u64);
-    trial_in(order, bucket, room);
-    report::figure(b"depth in", room as u64);
-    depth_in(order, bucket.rate, room);
-    report::figure(b"from the end in", room as u64);
-    depth_from_end_in(order, bucket.rate, room);
-    report::figure(b"cause in", room as u64);
-    cause_in(order, bucket.rate, room);
+pub fn services(rt: &impl Print, order: &[u8], bucket: Bucket, room: usize) {
+    report::figure(rt, b"sheet in", room as u64);
+    sheet_in(rt, order, room);
+    report::figure(rt, b"single in", room as u64);
+    single_in(rt, order, room);
+    report::figure(rt, b"trial of", bucket.rate.0 as u64);
+    report::number(rt, bucket.depth.0 as u64);
+    report::figure(rt, b" in", room as u64);
+    trial_in(rt, order, bucket, room);
+    report::figure(rt, b"depth in", room as u64);
+    depth_in(rt, order, bucket.rate, room);
+    report::figure(rt, b"from the end in", room as u64);
+    depth_from_end_in(rt, order, bucket.rate, room);
+    report::figure(rt, b"cause in", room as u64);
+    cause_in(rt, order, bucket.rate, room);
 }
 
-pub fn sheet_in(order: &[u8], room: usize) {
+pub fn sheet_in(rt: &impl Print, order: &[u8], room: usize) {
     let mut text = [LENT; LENT_BYTES];
     let answer = sheets::sheet(order, lent_front(&mut text, room));
-    print(answer, &text);
+    print(rt, answer, &text);
 }
 
-fn single_in(order: &[u8], room: usize) {
+fn single_in(rt: &impl Print, order: &[u8], room: usize) {
     let mut text = [LENT; LENT_BYTES];
     let answer = services::single_line(order, lent_front(&mut text, room));
-    print(answer, &text);
+    print(rt, answer, &text);
 }
 
-fn trial_in(order: &[u8], bucket: Bucket, room: usize) {
+fn trial_in(rt: &impl Print, order: &[u8], bucket: Bucket, room: usize) {
     let mut text = [LENT; LENT_BYTES];
     let answer = services::trial_line(order, bucket, lent_front(&mut text, room));
-    print(answer, &text);
+    print(rt, answer, &text);
 }
 
-fn depth_in(order: &[u8], rate: Rate, room: usize) {
+fn depth_in(rt: &impl Print, order: &[u8], rate: Rate, room: usize) {
     let mut text = [LENT; LENT_BYTES];
     let answer = services::depth_line(order, rate, lent_front(&mut text, room));
-    print(answer, &text);
+    print(rt, answer, &text);
 }
 
-fn depth_from_end_in(order: &[u8], rate: Rate, room: usize) {
+fn depth_from_end_in(rt: &impl Print, order: &[u8], rate: Rate, room: usize) {
     let mut text = [LENT; LENT_BYTES];
     let answer = services::depth_from_end_line(order, rate, lent_front(&mut text, room));
-    print(answer, &text);
+    print(rt, answer, &text);
 }
 
-fn cause_in(order: &[u8], rate: Rate, room: usize) {
+fn cause_in(rt: &impl Print, order: &[u8], rate: Rate, room: usize) {
     let mut text = [LENT; LENT_BYTES];
     let answer = services::explain_line(order, rate, lent_front(&mut text, room));
-    print(answer, &text);
+    print(rt, answer, &text);
 }
 
 // How many bytes were filled, or the refusal; whether the rest is as it was lent; and the text.
-pub fn print(answer: FillAnswer, text: &[u8; LENT_BYTES]) {
+pub fn print(rt: &impl Print, answer: FillAnswer, text: &[u8; LENT_BYTES]) {
     let length = report::filled_of(answer);
-    report::words(b":");
-    report::fill(answer);
-    report::kept(is_lent(text, length));
-    report::words(front(text, length));
+    report::words(rt, b":");
+    report::fill(rt, answer);
+    report::kept(rt, is_lent(text, length));
+    report::words(rt, front(text, length));
 }

@@ -3,40 +3,40 @@ use order_text::{Fault, Reason, TextAnswer, order_of_text, refusal_of};
 use samples::file_bytes::{LENT, LENT_BYTES, checksum, is_lent, lent_front};
 
 // A text written into so many bytes.
-pub fn into(name: &[u8], text: &[u8], lent: usize) {
+pub fn into(rt: &impl Print, name: &[u8], text: &[u8], lent: usize) {
     let mut bytes = [LENT; LENT_BYTES];
     let answer = order_of_text(text, lent_front(&mut bytes, lent));
-    report::words(name);
-    report::words(b":");
-    print(answer);
+    report::words(rt, name);
+    report::words(rt, b":");
+    print(rt, answer);
     let length = written_of(answer);
     if 0 < length {
-        report::words(b" checksum");
-        report::number(checksum(&bytes, length) as u64);
+        report::words(rt, b" checksum");
+        report::number(rt, checksum(&bytes, length) as u64);
     }
-    report::kept(is_lent(&bytes, length));
+    report::kept(rt, is_lent(&bytes, length));
 }
 
-pub fn print(answer: TextAnswer) {
+pub fn print(rt: &impl Print, answer: TextAnswer) {
     match answer {
-        TextAnswer::Written(length) => report::figure(b" written", length as u64),
-        TextAnswer::Faulty(fault) => print_fault(fault),
-        TextAnswer::Refused(refusal) => report::refusal(refusal),
+        TextAnswer::Written(length) => report::figure(rt, b" written", length as u64),
+        TextAnswer::Faulty(fault) => print_fault(rt, fault),
+        TextAnswer::Refused(refusal) => report::refusal(rt, refusal),
     }
 }
 
-fn print_fault(fault: Fault) {
-    report::figure(b" line", fault.line as u64);
-    report::figure(b" figure", fault.figure as u64);
+fn print_fault(rt: &impl Print, fault: Fault) {
+    report::figure(rt, b" line", fault.line as u64);
+    report::figure(rt, b" figure", fault.figure as u64);
     let reason = fault.reason;
     match reason {
-        Reason::Byte => report::words(b" byte"),
-        Reason::Above => report::words(b" above"),
-        Reason::Factor => report::words(b" factor"),
-        Reason::Many => report::words(b" many"),
-        Reason::Few => report::words(b" few"),
+        Reason::Byte => report::words(rt, b" byte"),
+        Reason::Above => report::words(rt, b" above"),
+        Reason::Factor => report::words(rt, b" factor"),
+        Reason::Many => report::words(rt, b" many"),
+        Reason::Few => report::words(rt, b" few"),
     }
-    report::refusal(refusal_of(reason));
+    report::refusal(rt, refusal_of(reason));
 }
 
 // The length of the file; 0 where none is written.

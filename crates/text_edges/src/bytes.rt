@@ -11,13 +11,13 @@ const BYTES: u32 = 256;
 // The place: between two demands in the second line.
 const PLACE: usize = 15;
 
-pub fn each_byte(text: [u8; PLAIN_ROOM], length: usize) {
+pub fn each_byte(rt: &impl Print, text: [u8; PLAIN_ROOM], length: usize) {
     for byte in 0..BYTES {
-        between(text, length, byte as u8);
+        between(rt, text, length, byte as u8);
     }
 }
 
-fn between(text: [u8; PLAIN_ROOM], length: usize, byte: u8) {
+fn between(rt: &impl Print, text: [u8; PLAIN_ROOM], length: usize, byte: u8) {
     let mut changed = text;
     changed[PLACE] = byte;
     let mut file = [LENT; FILE_ROOM];
@@ -25,10 +25,10 @@ fn between(text: [u8; PLAIN_ROOM], length: usize, byte: u8) {
     if is_fault_there(answer) {
         return;
     }
-    report::figure(b"byte", byte as u64);
-    report::words(b" between demands:");
-    print(answer);
-    report::end_line();
+    report::figure(rt, b"byte", byte as u64);
+    report::words(rt, b" between demands:");
+    print(rt, answer);
+    report::end_line(rt);
 }
 
 fn is_fault_there(answer: TextAnswer) -> bool {

@@ -10,9 +10,9 @@ const FIGURES: usize = 600;
 const TEXT_BYTES: usize = 1200;
 
 // The first bytes of such a text.
-pub fn first_bytes(name: &[u8], length: usize) {
+pub fn first_bytes(rt: &impl Print, name: &[u8], length: usize) {
     let text = lines();
-    into(name, front(&text, length), LENT_BYTES);
+    into(rt, name, front(&text, length), LENT_BYTES);
 }
 
 // The digits 0 to 9 over and over: the first seven are a tariff. The length is promised so that the

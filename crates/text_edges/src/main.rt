@@ -11,37 +11,37 @@ mod places;
 mod words;
 
 use cases::{PLAIN_ROOM, field, first, line, lines, number, plain, plain_text};
-use console::read_all;
+use console::{INPUT_ROOM, read_all};
 use samples::file_bytes::LENT_BYTES;
 
-fn main() {
-    let mut input = io::large_buffer();
-    let length = read_all(&mut input, b"text_edges: standard input");
-    each_case(&input[..length]);
+fn main(rt: HostRuntime) {
+    let mut input = [0u8; INPUT_ROOM];
+    let length = read_all(&rt, &mut input, "text_edges: standard input");
+    each_case(&rt, &input[..length]);
 }
 
-fn each_case(input: &[u8]) {
+fn each_case(rt: &impl Print, input: &[u8]) {
     for n in 0..lines(input) {
-        case(line(input, n));
+        case(rt, line(input, n));
     }
 }
 
 // One case, told by its first letter; a text is the last field.
-fn case(line: &[u8]) {
+fn case(rt: &impl Print, line: &[u8]) {
     let kind = first(line);
     let last = if kind == b't' { 3 } else { 1 };
     let mut typed = [0u8; PLAIN_ROOM];
     let length = plain(field(line, last), &mut typed);
     let text = plain_text(&typed, length);
     match kind {
-        b't' => answers::into(field(line, 1), text, room(field(line, 2))),
-        b'p' => places::every_place(text),
-        b'f' => places::fault(text),
-        b'b' => bytes::each_byte(typed, length),
-        b'd' => counts::first_bytes(text, room(field(line, 2))),
-        b'w' => words::print_number(text),
+        b't' => answers::into(rt, field(line, 1), text, room(field(line, 2))),
+        b'p' => places::every_place(rt, text),
+        b'f' => places::fault(rt, text),
+        b'b' => bytes::each_byte(rt, typed, length),
+        b'd' => counts::first_bytes(rt, text, room(field(line, 2))),
+        b'w' => words::print_number(rt, text),
         b'#' => {}
-        _ => report::words(b"no such case\n"),
+        _ => report::words(rt, b"no such case\n"),
     }
 }
 

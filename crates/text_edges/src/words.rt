@@ -2,13 +2,13 @@
 use typed_figures::{NumberAnswer, number_of};
 
 // What a word of digits stands for, or that it is none.
-pub fn print_number(word: &[u8]) {
-    report::words(b"word [");
-    report::words(word);
-    report::words(b"]:");
+pub fn print_number(rt: &impl Print, word: &[u8]) {
+    report::words(rt, b"word [");
+    report::words(rt, word);
+    report::words(rt, b"]:");
     match number_of(word) {
-        NumberAnswer::Number(n) => report::number(n as u64),
-        NumberAnswer::NoNumber => report::words(b" no number"),
+        NumberAnswer::Number(n) => report::number(rt, n as u64),
+        NumberAnswer::NoNumber => report::words(rt, b" no number"),
     }
-    report::end_line();
+    report::end_line(rt);
 }

@@ -7,25 +7,28 @@ use services::{LONGEST_TRIAL, trial_line};
 use terms::{Bucket, Depth, Rate};
 use typed_figures::NumberAnswer;
 
-fn main() {
+fn main(rt: HostRuntime) {
     if !has_words(
+        &rt,
         3,
-        b"use: trial RATE DEPTH < ORDER (kilobits; an order file on standard input)\n",
-        b"trial: write",
+        "use: trial RATE DEPTH < ORDER (kilobits; an order file on standard input)\n",
+        "trial: write",
     ) {
         return;
     }
     let NumberAnswer::Number(rate) = number_argument(
+        &rt,
         1,
-        b"trial: RATE is a whole number of kilobits, 0 to 4294967295 (refused 5)\n",
-        b"trial: write",
+        "trial: RATE is a whole number of kilobits, 0 to 4294967295 (refused 5)\n",
+        "trial: write",
     ) else {
         return;
     };
     let NumberAnswer::Number(depth) = number_argument(
+        &rt,
         2,
-        b"trial: DEPTH is a whole number of kilobits, 0 to 4294967295 (refused 5)\n",
-        b"trial: write",
+        "trial: DEPTH is a whole number of kilobits, 0 to 4294967295 (refused 5)\n",
+        "trial: write",
     ) else {
         return;
     };
@@ -33,13 +36,13 @@ fn main() {
         rate: Rate(rate),
         depth: Depth(depth),
     };
-    print_trial(bucket);
+    print_trial(&rt, bucket);
 }
 
-fn print_trial(bucket: Bucket) {
+fn print_trial(rt: &(impl Input + Print + Eprint), bucket: Bucket) {
     let mut order = [0u8; ORDER_ROOM];
-    let length = read_all(&mut order, b"trial: standard input");
+    let length = read_all(rt, &mut order, "trial: standard input");
     let mut text = [0u8; LONGEST_TRIAL];
     let answer = trial_line(&order[..length], bucket, &mut text);
-    print(answer, &text, b"trial: write");
+    print(rt, answer, &text, "trial: write");
 }

@@ -1,0 +1,2 @@
+-- What the contracts of the programs' reading cite.
+pub mod Counts
