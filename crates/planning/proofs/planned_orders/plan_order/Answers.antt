@@ -1,13 +1,12 @@
 -- The series is planned on the numbers spread, which are as many as the order says.
 use native.Mathlib.Omega.{arith}
-use mathlib.Core.Path.{sym, ap}
+use mathlib.Core.Path.{ap}
 use borrow.Author.Tests.{lt-leb}
 use Prim.Native.Nat.{ℕ}
 use lib.ListN.{length-take}
 use Rattle.order_file.specs.Order.{order_says}
 use Rattle.order_file.specs.OrderedLaws.{demands-inside}
 use Rattle.planning.specs.CallLaws.{planning-refused, planning-short, series-planned}
-use borrow.Author.Rules.{rules}
 use Rattle.planning.proofs.planned_orders.plan_order.Goals as goal
 
 pub returns-in-Refused : goal.returns-in-Refused
