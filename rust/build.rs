@@ -1,4 +1,4 @@
-//! Links the proved product, which `rt staticlib exports` has written beside this package.
+//! Links the proved product, which `tools/build exports_c` has written beside this package.
 
 use std::env;
 use std::path::PathBuf;
@@ -14,7 +14,7 @@ fn main() {
     println!("cargo:rerun-if-changed=build.rs");
     println!("cargo:rerun-if-changed={}", archive.display());
     if !archive.is_file() {
-        eprintln!("{} is missing: run `rt staticlib exports` first", archive.display());
+        eprintln!("{} is missing: run `tools/build exports_c` first", archive.display());
         exit(1);
     }
     println!("cargo:rustc-link-search=native={}", folder.display());

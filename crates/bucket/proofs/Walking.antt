@@ -13,7 +13,7 @@ use lib.IntN.{ℤ}
 use lib.Signed.{le_z}
 use Rattle.terms.specs.Limits.{demand_limit, depth_limit}
 use Rattle.bucket.specs.declared.period.Period.{Period}
-use Rattle.bucket.specs.Step.{over, held, period_of}
+use Rattle.bucket.specs.Step.{held, period_of}
 use Rattle.bucket.specs.Trace.{sum_of, over_all, gap, gaps, min_z, least_of, spare_from}
 
 min-same : (z : ℤ) → min_z z z ≡ z

@@ -13,16 +13,14 @@ use terms::{Bucket, Depth, Rate};
 
 // The smallest depth that carries an order's trace at a rate; or refusal 1 to 5 of the order, 5 of the
 // rate or 7.
-#[unsafe(no_mangle)]
-pub extern "C" fn metqoraz_depth(order: &[u8], rate: u32) -> u64
+pub fn metqoraz_depth(order: &[u8], rate: u32) -> u64
     ensures { result ≡ coded (depth_for rate order.now) }
 {
     coded_depth(depth_for(order, Rate(rate)))
 }
 
 // The same where the order's demands stand in archive order, last period first.
-#[unsafe(no_mangle)]
-pub extern "C" fn metqoraz_depth_from_end(order: &[u8], rate: u32) -> u64
+pub fn metqoraz_depth_from_end(order: &[u8], rate: u32) -> u64
     ensures { result ≡ coded (depth_from_end_for rate order.now) }
 {
     coded_depth(depth_from_end_for(order, Rate(rate)))
@@ -30,8 +28,7 @@ pub extern "C" fn metqoraz_depth_from_end(order: &[u8], rate: u32) -> u64
 
 // The single bucket for an order: its rate and depth into the two numbers; answers its cost, or refusal
 // 1 to 5 of the order or 7, and the numbers are as they were.
-#[unsafe(no_mangle)]
-pub extern "C" fn metqoraz_single(order: &[u8], rate: &mut u32, depth: &mut u32) -> u64
+pub fn metqoraz_single(order: &[u8], rate: &mut u32, depth: &mut u32) -> u64
     ensures value { result ≡ coded (on_figures (λ s. s.cost) (single_for order.now)) }
     ensures rate_after { rate.new ≡ figure_or (on_figures (λ s. s.bucket.rate.0) (single_for order.now)) rate.old }
     ensures depth_after { depth.new ≡ figure_or (on_figures (λ s. s.bucket.depth.0) (single_for order.now)) depth.old }
@@ -47,8 +44,7 @@ pub extern "C" fn metqoraz_single(order: &[u8], rate: &mut u32, depth: &mut u32)
 
 // The trial of a bucket on an order's trace: its spare into the number; answers what is discarded, or
 // refusal 1 to 5 of the order or 5 of the bucket, and the number is as it was.
-#[unsafe(no_mangle)]
-pub extern "C" fn metqoraz_trial(order: &[u8], rate: u32, depth: u32, spare: &mut i64) -> u64
+pub fn metqoraz_trial(order: &[u8], rate: u32, depth: u32, spare: &mut i64) -> u64
     ensures value { result ≡ coded (on_figures (λ t. t.over) (trial_for (bucket_of rate depth) order.now)) }
     ensures spare_after { spare.new ≡ figure_or (on_figures (λ t. t.spare) (trial_for (bucket_of rate depth) order.now)) spare.old }
 {

@@ -9,8 +9,7 @@ use checking::{CheckAnswer, check};
 
 // Answers 1 for a plan that holds, with its excess in the number; 0 for one that does not; or refusal 1
 // to 5 of the order, 1 to 5 of the plan or 10. But for a yes the number is as it was.
-#[unsafe(no_mangle)]
-pub extern "C" fn metqoraz_check(order: &[u8], plan: &[u8], excess: &mut u64) -> u64
+pub fn metqoraz_check(order: &[u8], plan: &[u8], excess: &mut u64) -> u64
     ensures value { result ≡ coded (on_figures verdict_code (check_of order.now plan.now)) }
     ensures excess_after { excess.new ≡ excess_or (check_of order.now plan.now) excess.old }
 {

@@ -22,8 +22,7 @@ struct CauseNumbers {
 // The smallest depth that carries an order's trace at a rate, with its cause in the three numbers: 0 for
 // nothing, 1 for an opening or 2 for a stretch, then its first and its last period, counted from 1 (0 and
 // 0 for nothing); or refusal 1 to 5 of the order, 5 of the rate or 7, and the numbers are as they were.
-#[unsafe(no_mangle)]
-pub extern "C" fn metqoraz_explain(
+pub fn metqoraz_explain(
     order: &[u8],
     rate: u32,
     cause: &mut u32,

@@ -1,6 +1,5 @@
-// The calls for programs in C or Rust, on numbers and slices alone. Each is defined in the static
-// library under its own name and answers one number: its figure, or 10^18 and a refusal's number.
-// include/metqoraz.h and rust/src/calls.rs declare them.
+// The calls for programs in C or Rust, on numbers and slices alone. Each answers one number: its figure,
+// or 10^18 and a refusal's number. The crate exports_c hands them out under their names.
 #![tactic(auto)]
 
 mod answers;

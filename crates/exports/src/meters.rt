@@ -16,8 +16,7 @@ const TOTALS: usize = 5;
 // Opens a meter on a fresh bucket and offers it the list, first to last: tokens held, periods, sent,
 // over and lost fill the front of the totals, and the periods are answered; or refusal 5, 6 (fewer than
 // five totals) or 9 (more offers than a meter takes), and the totals are as they were.
-#[unsafe(no_mangle)]
-pub extern "C" fn metqoraz_meter(
+pub fn metqoraz_meter(
     rate: u32,
     depth: u32,
     p: u32,

@@ -16,8 +16,7 @@ use terms::limits::TRACE_LIMIT;
 use terms::numbers::shorter;
 
 // The cost of the cheapest plan for an order; or refusal 1 to 5 of the order or 7.
-#[unsafe(no_mangle)]
-pub extern "C" fn metqoraz_series(order: &[u8]) -> u64
+pub fn metqoraz_series(order: &[u8]) -> u64
     ensures { result ≡ coded (planned_cost order.now) }
 {
     let answer = plan_order(order, TRACE_LIMIT, TRACE_LIMIT).answer;
@@ -29,8 +28,7 @@ pub extern "C" fn metqoraz_series(order: &[u8]) -> u64
 
 // Writes the file of the cheapest plan for an order into the front of the bytes and answers its
 // length; or refusal 1 to 5 of the order, 7 or 6, and the bytes are as they were.
-#[unsafe(no_mangle)]
-pub extern "C" fn metqoraz_book(order: &[u8], plan: &mut [u8]) -> u64
+pub fn metqoraz_book(order: &[u8], plan: &mut [u8]) -> u64
     ensures value { result ≡ coded (on_figures length (plan_file_in (length plan.old) order.now)) }
     ensures plan_after { plan.new ≡ filled (plan_file_in (length plan.old) order.now) plan.old }
 {
@@ -52,8 +50,7 @@ pub extern "C" fn metqoraz_book(order: &[u8], plan: &mut [u8]) -> u64
 // Reads a plan file: its T and its number of buckets into the two numbers, its run lengths, rates and
 // depths into the fronts of the three lists; answers its cost, or refusal 1 to 5 or 6 (a list with fewer
 // entries than buckets), and everything lent is as it was.
-#[unsafe(no_mangle)]
-pub extern "C" fn metqoraz_plan(
+pub fn metqoraz_plan(
     plan: &[u8],
     periods: &mut u32,
     buckets: &mut u32,

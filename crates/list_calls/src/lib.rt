@@ -1,6 +1,5 @@
 // The calls on bucket records, made on the first records of an array that goes in and comes back by
-// value. For the test programs alone: a function that lends a list of records is proved by hand, so
-// they leave the lending to these.
+// value. For the test programs alone, which leave the lending to these.
 #![tactic(auto)]
 
 mod arrays;

@@ -69,10 +69,10 @@ module _ (T cost : ℕ) (xs : Cutting) (c : CountsRange T (length xs)) (limit : 
   abbrev rest : List ℕ
   rest = bytes_of_all record_bytes xs
 
-  abbrev bs : List ℕ
-  bs = plan_bytes T cost xs
+  abbrev file : List ℕ
+  file = plan_bytes T cost xs
 
-  words_are : items_at (number_at 4 bs) 4 6 0 ≡ plan_words T (length xs)
+  words_are : items_at (number_at 4 file) 4 6 0 ≡ plan_words T (length xs)
   words_are =
       let k : Within 4 (length xs) = omega (arith, c.few, c.periods.few) in
       let n : Within 4 T = omega (arith, c.periods.few) in
@@ -80,50 +80,50 @@ module _ (T cost : ℕ) (xs : Cutting) (c : CountsRange T (length xs)) (limit : 
       ap (λ (ys : List ℕ). items_at (number_at 4 ys) 4 6 0) (append_assoc head (bytes_of 8 cost) rest)
       ∙ numbers_written 4 (plan_words T (length xs)) (omega arith, (n, (k, (omega arith, (omega arith, (m, tt)))))) [] (bytes_of 8 cost ++ rest)
 
-  word_is : (i : ℕ) → get_or (items_at (number_at 4 bs) 4 6 0) i 0 ≡ get_or (plan_words T (length xs)) i 0
+  word_is : (i : ℕ) → get_or (items_at (number_at 4 file) 4 6 0) i 0 ≡ get_or (plan_words T (length xs)) i 0
   word_is i = ap (λ (ns : List ℕ). get_or ns i 0) words_are
 
-  periods-is : number_at 4 bs 4 ≡ T
+  periods-is : number_at 4 file 4 ≡ T
   unfolding items_at
   periods-is = word_is 1
 
-  count-is : number_at 4 bs 8 ≡ length xs
+  count-is : number_at 4 file 8 ≡ length xs
   unfolding items_at
   count-is = word_is 2
 
-  cost-is : number_at 8 bs cost_offset ≡ cost
+  cost-is : number_at 8 file cost_offset ≡ cost
   cost-is =
-      ap (number_at 8 bs) (sym (length_all (bytes_of 4) 4 (length-bytes 4) (plan_words T (length xs))))
+      ap (number_at 8 file) (sym (length_all (bytes_of 4) 4 (length-bytes 4) (plan_words T (length xs))))
       ∙ number_written 8 cost head rest (omega arith)
 
-  records_are : buckets_in bs ≡ xs
+  records_are : buckets_in file ≡ xs
   records_are =
-      ap (λ (k : ℕ). records_in k bs) count-is
-      ∙ ap₂ (λ (ys : List ℕ) (at : ℕ). items_at (record_at ys) 12 (length xs) at) (sym (append-nil bs)) (sym (length-head T (length xs) cost))
+      ap (λ (k : ℕ). records_in k file) count-is
+      ∙ ap₂ (λ (ys : List ℕ) (at : ℕ). items_at (record_at ys) 12 (length xs) at) (sym (append-nil file)) (sym (length-head T (length xs) cost))
       ∙ items_written record_bytes 12 length_record record_at Fits record_written xs (records_fit T xs r c.periods.few) (head ++ bytes_of 8 cost) []
 
-  keeps_rules : PlanRules bs
+  keeps_rules : PlanRules file
   unfolding items_at
   keeps_rules =
-      let l : length bs ≡ plan_length (length xs) = length-plan T cost xs in
+      let l : length file ≡ plan_length (length xs) = length-plan T cost xs in
       record {
         header = omega (arith, l);
         kind = word_is 0;
-        counts = subst (λ (n : ℕ). CountsRange n (number_at 4 bs 8)) (sym periods-is) (subst (CountsRange T) (sym count-is) c);
+        counts = subst (λ (n : ℕ). CountsRange n (number_at 4 file 8)) (sym periods-is) (subst (CountsRange T) (sym count-is) c);
         placed =
-            subst (λ (n : ℕ). Placed 12 cost_offset buckets_offset (plan_length n) bs) (sym count-is)
+            subst (λ (n : ℕ). Placed 12 cost_offset buckets_offset (plan_length n) file) (sym count-is)
             (record { first_offset = word_is 3; second_offset = word_is 4; file_length = word_is 5; bytes = l });
         cost = omega (arith, cost-is);
-        records = subst (RecordsRange (number_at 4 bs 4)) (sym records_are) (subst (λ (n : ℕ). RecordsRange n xs) (sym periods-is) r);
+        records = subst (RecordsRange (number_at 4 file 4)) (sym records_are) (subst (λ (n : ℕ). RecordsRange n xs) (sym periods-is) r);
       }
 
   abbrev these : Recorded
   these = record { periods = T; cost = cost; buckets = xs }
 
-  plan-read : plan_in bs ≡ figures these
-  plan-read = rules_read bs keeps_rules ∙ ap figures same
+  plan-read : plan_in file ≡ figures these
+  plan-read = rules_read file keeps_rules ∙ ap figures same
     where
-      same : recorded_in bs ≡ these
+      same : recorded_in file ≡ these
       same = rw (periods-is, cost-is, records_are)
 
 -- A written plan reads back as the same figures and records, into any list that has room for them.

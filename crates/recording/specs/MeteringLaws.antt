@@ -1,6 +1,6 @@
 -- The meters of a plan, run by run: how the totals grow, and that what is left to meter completes them.
 -- Assumes nothing.
-use Rattle.std.specs.Prelude.{ℕ, ◌+◌, ◌-◌, ◌*◌, ◌≤◌, ◌<◌, ◌≡◌, refl, length, take, drop, get_or}
+use Rattle.std.specs.Prelude.{ℕ, ◌+◌, ◌*◌, ◌≤◌, ◌<◌, ◌≡◌, refl, length, take, drop, get_or}
 use Rattle.std.proofs.Common.{arith, add_assoc, zero-add, add-zero, subst, ◌∙◌, drop-drop}
 use Rattle.std.proofs.Math.Path.{sym, ap}
 use mathlib.Core.List.{List, [], ◌∷◌}

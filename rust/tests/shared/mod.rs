@@ -253,7 +253,7 @@ pub fn said(text: &str) -> Answer<Vec<u8>> {
 pub fn printed(program: &str, words: &[&str], input: &[u8]) -> String {
     let path = format!("{}/../target/bin/{program}", env!("CARGO_MANIFEST_DIR"));
     let piped = Command::new(path).args(words).stdin(Stdio::piped()).stdout(Stdio::piped()).spawn();
-    let mut child = piped.unwrap_or_else(|_| panic!("the program is not there: run `rt check {program}` first"));
+    let mut child = piped.unwrap_or_else(|_| panic!("the program is not there: run `tools/build {program}` first"));
     child.stdin.take().expect("the input is piped").write_all(input).expect("the input is read");
     let output = child.wait_with_output().expect("the program ends");
     String::from_utf8(output.stdout).expect("the program prints text")

@@ -1,7 +1,6 @@
 -- Each figure of the period is the definition's, by what the two smaller numbers are.
 use Prim.Native.Nat.{ℕ, ◌+◌, ◌-◌, min}
 use mathlib.Core.Path.{◌≡◌}
-use borrow.Author.Rules.{rules}
 use Rattle.bucket.specs.Step.{period_of}
 use Rattle.bucket.proofs.period.step.Goals as goal
 

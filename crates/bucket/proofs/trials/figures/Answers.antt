@@ -1,11 +1,9 @@
 -- The walk's invariant is `Walking`; each turn is one period of the definition,
 -- and at the end nothing of the trace is left.
-use Prim.Native.Nat.{ℕ, ◌-◌, ◌^◌, ◌≤◌, ◌<◌}
+use Prim.Native.Nat.{ℕ, ◌^◌, ◌≤◌, ◌<◌}
 use native.Mathlib.Omega.{arith}
 use mathlib.Core.Path.{◌≡◌, ◌∙◌, ap}
 use mathlib.Core.List.{List}
-use borrow.Author.Rules.{rules}
-use lib.ListN.{length}
 use lib.IntN.{ℤ}
 use lib.Signed.{mag}
 use mir.Syntax.{w64}
@@ -18,7 +16,7 @@ use Rattle.bucket.specs.Step.{start_of}
 use Rattle.bucket.specs.Trace.{over_all, spare_from, min_z}
 use Rattle.bucket.specs.Laws.{start_le}
 use Rattle.bucket.specs.Trial.{trial_figures}
-use Rattle.bucket.proofs.Walking.{Walking, walking_start, walking_step, over_end, spare_end}
+use Rattle.bucket.proofs.Walking.{walking_start, walking_step, over_end, spare_end}
 use Rattle.bucket.proofs.trials.figures.Goals as goal
 
 -- a trial is known by its parts

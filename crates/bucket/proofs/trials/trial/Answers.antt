@@ -1,11 +1,9 @@
 -- Each refusal is the first rule that its test finds broken; past both tests the walk gives the figures.
 use mathlib.Core.Path.{◌≡◌}
 use mathlib.Core.Bool.{true}
-use borrow.Author.Rules.{rules}
 use lib.ListN.{length}
 use Rattle.terms.specs.Ranges.{fresh_ok, periods_ok}
 use Rattle.terms.specs.RangeLaws.{fresh_range, periods_range}
-use Rattle.terms.specs.Bools.{check_passed, check_failed}
 use mathlib.Core.Path.{sym, ◌∙◌}
 use Rattle.bucket.proofs.trials.trial.Goals as goal
 

@@ -1,5 +1,4 @@
 -- Each test is the definition's, on the numbers that are read.
-use borrow.Author.Rules.{rules}
 use Rattle.encoding.proofs.headers.placed.Goals as goal
 
 pub returns : goal.returns

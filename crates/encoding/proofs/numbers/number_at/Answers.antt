@@ -4,7 +4,6 @@ use native.Mathlib.Omega.{arith}
 use native.Mathlib.Nat.{le_trans, zero-lt-suc, one-le-pow, pow-le-pow_right, pow-suc, mul-le-mul, le_refl}
 use mathlib.Core.Path.{◌≡◌, sym, ap, subst, ◌∙◌}
 use mathlib.Core.List.{List}
-use borrow.Author.Rules.{rules}
 use lib.ListN.{length, get_or}
 use Rattle.encoding.specs.Number.{value_of, number_at}
 use Rattle.encoding.specs.NumberLaws.{number_next}

@@ -1,13 +1,8 @@
 -- After each turn the value is the number of the bytes from the place reached to the end; it has as many bytes.
-use Prim.Native.Nat.{ℕ, suc, ◌+◌, ◌-◌, ◌*◌, ◌^◌, ◌≤◌, ◌<◌}
-use native.Mathlib.Omega.{arith}
-use native.Mathlib.Nat.{le_trans, zero-lt-suc, one-le-pow, pow-le-pow_right, pow-suc, mul-le-mul, le_refl}
-use mathlib.Core.Path.{◌≡◌, sym, ap, subst, ◌∙◌}
+use Prim.Native.Nat.{ℕ, ◌+◌, ◌-◌, ◌^◌, ◌≤◌, ◌<◌}
+use mathlib.Core.Path.{◌≡◌}
 use mathlib.Core.List.{List}
-use borrow.Author.Rules.{rules}
-use lib.ListN.{length, get_or}
-use Rattle.encoding.specs.Number.{value_of, number_at}
-use Rattle.encoding.specs.NumberLaws.{number_next}
+use Rattle.encoding.specs.Number.{number_at}
 use Rattle.encoding.proofs.numbers.number_at.Given as goal
 
 pub record Reading (bs : List ℕ) (at width value k : ℕ) : Type 0 where

@@ -1,14 +1,6 @@
 -- The bytes still to be stored, stored from the place reached on, give the whole.
-use Prim.Native.Nat.{ℕ, suc, ◌+◌, ◌-◌, ◌/◌, ◌%◌, ◌≤◌, ◌<◌}
 use native.Mathlib.Omega.{arith}
-use mathlib.Core.Path.{◌≡◌, ap, subst}
-use mathlib.Core.List.{List}
-use borrow.Author.Rules.{rules}
-use lib.ListN.{set}
-use lib.Seq.{sets}
-use Rattle.encoding.specs.Number.{bytes_of}
-use Rattle.encoding.specs.StoreLaws.{Storing, none_stored, one_stored, all_stored}
-use Rattle.encoding.proofs.numbers.put_number.Invariants.{Writing, begin, next, end}
+use Rattle.encoding.proofs.numbers.put_number.Invariants.{begin, next, end}
 use Rattle.encoding.proofs.numbers.put_number.Goals as goal
 
 pub loop-k-init : goal.loop-k-init

@@ -1,6 +1,5 @@
 -- A number of 4 bytes has 32 bits.
 use native.Mathlib.Omega.{arith}
-use borrow.Author.Rules.{rules}
 use Rattle.encoding.proofs.numbers.word_at.Goals as goal
 
 pub overflow_cast-result : goal.overflow_cast-result

@@ -1,5 +1,4 @@
 -- The range of T is as its own check gives it.
-use borrow.Author.Rules.{rules}
 use Rattle.plan_file.proofs.layout.counts_in_range.Goals as goal
 
 pub returns : goal.returns

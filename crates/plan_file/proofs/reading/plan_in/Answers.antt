@@ -7,14 +7,12 @@ use mathlib.Core.List.{List}
 use borrow.Author.Tests.{le-leb, lt-leb, eq-eqb, ne_eqb}
 use lib.Dec.{leb, eqb}
 use lib.ListN.{length}
-use Rattle.terms.specs.Bools.{check_passed, check_failed}
 use Rattle.terms.specs.Limits.{cost_limit}
 use Rattle.encoding.specs.Number.{number_at}
 use Rattle.encoding.specs.Header.{placed_as}
 use Rattle.encoding.specs.HeaderLaws.{placed_range}
 use Rattle.plan_file.specs.Plan.{buckets_offset, cost_offset, counts_ok, plan_kind, plan_length, recorded_figures, records_in, records_ok}
 use Rattle.plan_file.specs.PlanRules.{buckets_in, plan_placed, CountsRange, counts_range, plan-short, plan_foreign, plan-periods, plan_misplaced, plan-cost, plan-records, plan_figures_lem, figures_are}
-use borrow.Author.Rules.{rules}
 use Rattle.plan_file.proofs.reading.plan_in.Goals as goal
 
 -- the check of the records is one of T and k as the bytes have them

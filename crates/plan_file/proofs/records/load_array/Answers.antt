@@ -1,9 +1,8 @@
 -- The records from the place reached on are left to be stored.
-use Prim.Native.Nat.{ℕ, ◌+◌, ◌-◌, ◌*◌, ◌≤◌, ◌<◌}
+use Prim.Native.Nat.{ℕ, ◌+◌, ◌-◌, ◌≤◌, ◌<◌}
 use native.Mathlib.Omega.{arith}
 use mathlib.Core.Path.{◌≡◌, sym, ap, subst, ◌∙◌}
 use mathlib.Core.List.{List, ◌∷◌}
-use borrow.Author.Rules.{rules}
 use lib.ListN.{set}
 use Rattle.terms.specs.declared.BucketRecord.{BucketRecord}
 use Rattle.terms.specs.Answer.{figures}
@@ -15,14 +14,11 @@ use Rattle.encoding.specs.StoreLaws.{Storing, none_stored, one_stored, all_store
 use Rattle.record_list.specs.Held.{blank, held}
 use Rattle.record_list.specs.HeldLaws.{length-blank}
 use Rattle.plan_file.specs.Plan.{buckets_offset, record_at, records_in}
+use Rattle.plan_file.proofs.records.load_array.Invariants.{Loading}
 use Rattle.plan_file.proofs.records.load_array.Goals as goal
 
 module _ (bs : List ℕ) (k : ℕ) where
-  record Loading (records : Cutting) (at i : ℕ) : Type 0 where
-    place : at ≡ buckets_offset + 12 * i
-    stored : Storing blank 0 (records_in k bs) records i (items_at (record_at bs) 12 (k - i) at)
-
-  begin : (records : Cutting) → records ≡ blank → Loading records buckets_offset 0
+  begin : (records : Cutting) → records ≡ blank → Loading bs k records buckets_offset 0
   begin records e =
       let n : k ≡ k - 0 = omega arith in
       let none = subst (λ (xs : Cutting). Storing blank 0 (records_in k bs) xs 0 (records_in k bs)) (sym e) (none_stored blank 0 (records_in k bs)) in
@@ -31,8 +27,8 @@ module _ (bs : List ℕ) (k : ℕ) where
         stored = subst (λ (m : ℕ). Storing blank 0 (records_in k bs) records 0 (items_at (record_at bs) 12 m buckets_offset)) n none;
       }
 
-  module _ {records : Cutting} {at i : ℕ} (w : Loading records at i) where
-    next : i < k → (x : BucketRecord) → x ≡ record_at bs at → Loading (set records i x) (at + 12) (i + 1)
+  module _ {records : Cutting} {at i : ℕ} (w : Loading bs k records at i) where
+    next : i < k → (x : BucketRecord) → x ≡ record_at bs at → Loading bs k (set records i x) (at + 12) (i + 1)
     next l x e =
         let rest = items_at (record_at bs) 12 (k - (i + 1)) (at + 12) in
         record {

@@ -1,5 +1,4 @@
 -- The record is made of the three numbers that are read.
-use borrow.Author.Rules.{rules}
 use Rattle.plan_file.proofs.records.record_at.Goals as goal
 
 pub returns : goal.returns

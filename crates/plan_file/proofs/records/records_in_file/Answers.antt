@@ -1,11 +1,9 @@
 -- The records from the place reached on are left to be weighed.
-use Prim.Native.Nat.{ℕ, ◌+◌, ◌-◌, ◌*◌}
+use Prim.Native.Nat.{ℕ, ◌+◌, ◌-◌}
 use native.Mathlib.Omega.{arith}
 use mathlib.Core.Path.{◌≡◌, sym, ap, subst, ◌∙◌}
 use mathlib.Core.Bool.{true}
 use mathlib.Core.List.{List, ◌∷◌}
-use borrow.Author.Rules.{rules}
-use Rattle.plan_file.specs.declared.records.Tally.{Tally}
 use Rattle.terms.specs.declared.BucketRecord.{BucketRecord}
 use Rattle.terms.specs.Records.{Cutting}
 use Rattle.encoding.specs.Number.{items_at}

@@ -1,17 +1,11 @@
 -- The records from the place reached on are left to be weighed.
 use Prim.Native.Nat.{ℕ, ◌+◌, ◌-◌, ◌*◌}
-use native.Mathlib.Omega.{arith}
-use mathlib.Core.Path.{◌≡◌, sym, ap, subst, ◌∙◌}
-use mathlib.Core.Bool.{true}
-use mathlib.Core.List.{List, ◌∷◌}
-use borrow.Author.Rules.{rules}
+use mathlib.Core.Path.{◌≡◌}
+use mathlib.Core.List.{List}
 use Rattle.plan_file.specs.declared.records.Tally.{Tally}
-use Rattle.terms.specs.declared.BucketRecord.{BucketRecord}
-use Rattle.terms.specs.Records.{Cutting}
 use Rattle.encoding.specs.Number.{items_at}
-use Rattle.encoding.specs.StoreLaws.{items_next, items_none}
 use Rattle.plan_file.specs.Plan.{buckets_offset, record_at, records_in}
-use Rattle.plan_file.specs.RecordLaws.{Weighed, none_weighed, one_weighed, all_weighed}
+use Rattle.plan_file.specs.RecordLaws.{Weighed}
 use Rattle.plan_file.proofs.records.records_in_file.Given as goal
 
 pub record Weighing (bs : List ℕ) (k : ℕ) (t : Tally) (at i : ℕ) : Type 0 where

@@ -1,11 +1,8 @@
 -- The records from the one reached on are left to be weighed.
-use Prim.Native.Nat.{◌-◌}
 use native.Mathlib.Omega.{arith}
 use mathlib.Core.Path.{◌∙◌}
-use lib.ListN.{take, drop}
-use borrow.Author.Rules.{rules}
 use Rattle.record_list.specs.PartLaws.{rest_next, rest_none}
-use Rattle.plan_file.specs.RecordLaws.{Weighed, none_weighed, one_weighed, all_weighed}
+use Rattle.plan_file.specs.RecordLaws.{none_weighed, one_weighed, all_weighed}
 use Rattle.plan_file.proofs.records.records_in_range.Goals as goal
 
 pub loop-i-init : goal.loop-i-init
@@ -19,7 +16,7 @@ push-tally-requires c = omega (arith, c.loop-i.invariant.small, c.loop-i-test.tr
 
 pub loop-i-preserved : goal.loop-i-preserved
 loop-i-preserved c =
-    let next = rest_next c.args.buckets c.args.t3 (omega (arith, c.requires, c.well_formed.1.1.0.1.0.1)) c.loop-i.i c.loop-i-test.true in
+    let next = rest_next c.args.buckets c.args.records (omega (arith, c.requires)) c.loop-i.i c.loop-i-test.true in
     one_weighed _ c.loop-i.invariant _ _ next _ c.push-tally.ensures.value c.push-tally.ensures.sum_bound
 
 pub returns : goal.returns

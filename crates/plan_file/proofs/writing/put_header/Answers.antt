@@ -3,7 +3,6 @@ use Rattle.encoding.specs.Number.{bytes_of, bytes_of_all}
 use Rattle.plan_file.specs.Plan.{cost_offset, plan_words}
 use Rattle.encoding.specs.NumberLaws.{length-bytes, length_all}
 use Rattle.encoding.specs.StoreLaws.{sets_both}
-use borrow.Author.Rules.{rules}
 use Rattle.plan_file.proofs.writing.put_header.Goals as goal
 
 pub returns : goal.returns

@@ -9,7 +9,6 @@ use borrow.Author.Tests.{le-leb, lt-leb}
 use lib.Dec.{leb}
 use lib.ListN.{length, take}
 use lib.Seq.{sets, length-take-le}
-use Rattle.terms.specs.Bools.{check_passed, check_failed}
 use Rattle.terms.specs.Limits.{cost_limit, trace_limit}
 use Rattle.terms.specs.Records.{Cutting}
 use Rattle.encoding.specs.FillLaws.{fill_refused, fill_stored}
@@ -17,7 +16,6 @@ use Rattle.encoding.specs.Number.{bytes_of, bytes_of_all}
 use Rattle.encoding.specs.StoreLaws.{sets_both}
 use Rattle.plan_file.specs.Plan.{buckets_offset, counts_ok, plan_bytes, plan_length, plan_words, record_bytes, records_ok}
 use Rattle.plan_file.specs.PlanRules.{counts_range, length-head, length-plan, write_periods, write_cost, write_list, write_records, write_room, write_figures_lem}
-use borrow.Author.Rules.{rules}
 use Rattle.plan_file.proofs.writing.write_records.Goals as goal
 
 -- the header stored with the number of records, and then the records
@@ -35,13 +33,13 @@ returns-then-not-counts_in_range c =
 pub returns-then-plan-gt-COST_LIMIT : goal.returns-then-plan-gt-COST_LIMIT
 returns-then-plan-gt-COST_LIMIT c =
     let counts : let s = c.args in counts_ok s.plan.periods s.plan.buckets ≡ true = (sym c.counts_in_range.ensures ∙ c.if-not-counts_in_range.false) in
-    let all = fill_refused _ c.args.bytes.now 5 (write_cost _ _ _ _ (counts) (lt-leb _ _ c.if-plan-gt-COST_LIMIT.true)) in
+    let all = fill_refused _ c.args.bytes.now 5 (write_cost _ _ _ _ (counts) (lt-leb _ _ (omega arith))) in
     record { result_value = all.0; bytes_after = all.1 }
 
 pub returns-then-room-buckets : goal.returns-then-room-buckets
 returns-then-room-buckets c =
     let counts : let s = c.args in counts_ok s.plan.periods s.plan.buckets ≡ true = (sym c.counts_in_range.ensures ∙ c.if-not-counts_in_range.false) in
-    let cost : leb c.args.plan.cost cost_limit ≡ true = le-leb _ _ c.if-plan-gt-COST_LIMIT.false in
+    let cost : leb c.args.plan.cost cost_limit ≡ true = le-leb _ _ (omega arith) in
     let all = fill_refused _ c.args.bytes.now 6 (write_list _ _ _ _ (counts) (cost) (lt-leb _ _ c.if-room-buckets.true)) in
     record { result_value = all.0; bytes_after = all.1 }
 
@@ -54,7 +52,7 @@ records_in_range-requires c =
 pub returns-then-not-records_in_range : goal.returns-then-not-records_in_range
 returns-then-not-records_in_range c =
     let counts : let s = c.args in counts_ok s.plan.periods s.plan.buckets ≡ true = (sym c.counts_in_range.ensures ∙ c.if-not-counts_in_range.false) in
-    let cost : leb c.args.plan.cost cost_limit ≡ true = le-leb _ _ c.if-plan-gt-COST_LIMIT.false in
+    let cost : leb c.args.plan.cost cost_limit ≡ true = le-leb _ _ (omega arith) in
     let list : let s = c.args in leb s.plan.buckets s.room ≡ true = le-leb _ _ c.if-room-buckets.false in
     let all = fill_refused _ c.args.bytes.now 5
     (write_records _ _ _ _ (counts) (cost) (list) ((sym c.records_in_range.ensures ∙ c.if-not-records_in_range.true))) in
@@ -63,7 +61,7 @@ returns-then-not-records_in_range c =
 pub returns-then-bytes-length : goal.returns-then-bytes-length
 returns-then-bytes-length c =
     let counts : let s = c.args in counts_ok s.plan.periods s.plan.buckets ≡ true = (sym c.counts_in_range.ensures ∙ c.if-not-counts_in_range.false) in
-    let cost : leb c.args.plan.cost cost_limit ≡ true = le-leb _ _ c.if-plan-gt-COST_LIMIT.false in
+    let cost : leb c.args.plan.cost cost_limit ≡ true = le-leb _ _ (omega arith) in
     let list : let s = c.args in leb s.plan.buckets s.room ≡ true = le-leb _ _ c.if-room-buckets.false in
     let first : Cutting = take c.args.plan.buckets c.args.records in
     let records : records_ok c.args.plan.periods (first) ≡ true = (sym c.records_in_range.ensures ∙ c.if-not-records_in_range.false) in
@@ -86,11 +84,11 @@ pub returns : goal.returns
 returns c =
     let first : Cutting = take c.args.plan.buckets c.args.records in
     let counts : let s = c.args in counts_ok s.plan.periods s.plan.buckets ≡ true = (sym c.counts_in_range.ensures ∙ c.if-not-counts_in_range.false) in
-    let cost : leb c.args.plan.cost cost_limit ≡ true = le-leb _ _ c.if-plan-gt-COST_LIMIT.false in
+    let cost : leb c.args.plan.cost cost_limit ≡ true = le-leb _ _ (omega arith) in
     let list : let s = c.args in leb s.plan.buckets s.room ≡ true = le-leb _ _ c.if-room-buckets.false in
     let records : records_ok c.args.plan.periods (first) ≡ true = (sym c.records_in_range.ensures ∙ c.if-not-records_in_range.false) in
     let few : c.args.plan.buckets ≤ trace_limit = let a = c.args in let r = counts_range a.plan.periods a.plan.buckets (counts) in omega (arith, r.few, r.periods.few) in
-    let count : length (first) ≡ c.args.plan.buckets = length-take-le _ _ (omega (arith, few, c.well_formed.1.1.0.1.0.1)) in
+    let count : length (first) ≡ c.args.plan.buckets = length-take-le _ _ (omega (arith, few)) in
     let a = c.args in
     let n = length-plan a.plan.periods a.plan.cost (first) in
     let all = fill_stored _ a.bytes.now (plan_bytes a.plan.periods a.plan.cost (first)) _ _

@@ -1,13 +1,12 @@
 -- The series is planned on the numbers spread, which are as many as the order says.
-use Prim.Native.Nat.{◌≤◌}
-use mathlib.Core.Path.{sym, ap}
+use native.Mathlib.Omega.{arith}
+use mathlib.Core.Path.{ap}
 use borrow.Author.Tests.{lt-leb}
-use lib.ListN.{length}
-use lib.Seq.{length-take-le}
+use Prim.Native.Nat.{ℕ}
+use lib.ListN.{length-take}
 use Rattle.order_file.specs.Order.{order_says}
 use Rattle.order_file.specs.OrderedLaws.{demands-inside}
 use Rattle.planning.specs.CallLaws.{planning-refused, planning-short, series-planned}
-use borrow.Author.Rules.{rules}
 use Rattle.planning.proofs.planned_orders.plan_order.Goals as goal
 
 pub returns-in-Refused : goal.returns-in-Refused
@@ -16,17 +15,16 @@ returns-in-Refused c = planning-refused _ _ _ _ _ c.spread_order.ensures _ _ c.r
 pub returns-then-space-periods : goal.returns-then-space-periods
 returns-then-space-periods c = planning-short _ _ _ _ _ c.spread_order.ensures _ (ap order_says c.in-Read.is) _ c.refused-then-space-periods.ensures (lt-leb _ _ c.if-space-periods.true)
 
+-- The numbers that the order says are among those spread,
+-- and the series is planned on all of them.
 pub slice_bounds-demands-end : goal.slice_bounds-demands-end
-slice_bounds-demands-end c =
-    let inside : c.in-Read.x.periods ≤ length c.spread_order.new.1.0 = demands-inside _ _ _ _ c.spread_order.ensures _ (ap order_says c.in-Read.is) in
-    inside
+slice_bounds-demands-end c = omega (arith, demands-inside _ _ _ _ c.spread_order.ensures _ (ap order_says c.in-Read.is))
 
 pub slice_bounds-plan_series-end : goal.slice_bounds-plan_series-end
 slice_bounds-plan_series-end c =
-    let inside : c.in-Read.x.periods ≤ length c.spread_order.new.1.0 = demands-inside _ _ _ _ c.spread_order.ensures _ (ap order_says c.in-Read.is) in
-    sym (length-take-le _ _ (inside))
+    omega (arith, length-take {A = ℕ}, demands-inside _ _ _ _ c.spread_order.ensures _ (ap order_says c.in-Read.is))
 
 pub returns : goal.returns
 returns c =
     series-planned _ _ _ _ _ c.spread_order.ensures _ (ap order_says c.in-Read.is) c.if-space-periods.false
-    c.plan_series-planned.result c.plan_series-planned.ensures _ c.with_order-answer.ensures
+    c.plan_series-planned.result (let e = c.plan_series-planned.ensures in (e.answer_value, e.records_value)) _ c.with_order-answer.ensures

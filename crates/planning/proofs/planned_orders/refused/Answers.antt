@@ -1,5 +1,4 @@
 -- The records are blank ones.
-use borrow.Author.Rules.{rules}
 use Rattle.planning.proofs.planned_orders.refused.Goals as goal
 
 pub returns : goal.returns

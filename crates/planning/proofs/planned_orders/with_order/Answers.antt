@@ -4,7 +4,6 @@ use Rattle.terms.specs.Answer.{on_figures}
 use Rattle.series.specs.declared.answers.SeriesAnswer.{SeriesAnswer}
 use Rattle.series.specs.Series.{series_says}
 use Rattle.planning.specs.CallLaws.{with_order}
-use borrow.Author.Rules.{rules}
 use Rattle.planning.proofs.planned_orders.with_order.Goals as goal
 
 pub returns-in-Found : goal.returns-in-Found

@@ -1,6 +1,6 @@
 -- What is left to meter completes the totals so far; the next run is inside the trace,
 -- since the run lengths sum to its length.
-use Prim.Native.Nat.{◌+◌, ◌-◌, ◌≤◌}
+use Prim.Native.Nat.{◌+◌, ◌≤◌}
 use native.Mathlib.Omega.{arith}
 use mathlib.Core.Path.{◌≡◌, sym, ap, ◌∙◌}
 use lib.ListN.{length, take, drop, get_or, length-take, length-drop}
@@ -13,8 +13,7 @@ use Rattle.meter.specs.MeterLaws.{Sound}
 use Rattle.meter.specs.MeterRuns.{metered-sound}
 use Rattle.record_list.specs.Held.{no_record}
 use Rattle.record_list.specs.PartLaws.{part-is, run_inside}
-use Rattle.recording.specs.MeteringLaws.{Metering, none_metered, one_metered, all_metered, run-refused}
-use borrow.Author.Rules.{rules}
+use Rattle.recording.specs.MeteringLaws.{none_metered, one_metered, all_metered, run-refused}
 use Rattle.recording.proofs.metering.meter_runs.Goals as goal
 
 pub loop-i-init : goal.loop-i-init
@@ -25,38 +24,38 @@ bounds-records-i c = let l = c.requires.counts_range in omega (arith, c.loop-i-t
 
 pub overflow_cast-end : goal.overflow_cast-end
 overflow_cast-end c =
-    let fits : c.args.buckets ≤ length c.args.t4 = let l = c.requires.counts_range in omega (arith, l.few, l.periods.few, c.well_formed.1.1.1.0.1.0.1) in
-    let inside : let s = c.args in c.loop-i.start + (get_or s.t4 c.loop-i.i no_record).periods ≤ length s.trace.now = let l = c.loop-i in run_inside c.args.buckets c.args.t4 c.args.trace.now l.start l.i l.invariant.begins (fits) c.loop-i-test.true in
+    let fits : c.args.buckets ≤ length c.args.records = let l = c.requires.counts_range in omega (arith, l.few, l.periods.few) in
+    let inside : let s = c.args in c.loop-i.start + (get_or s.records c.loop-i.i no_record).periods ≤ length s.trace.now = let l = c.loop-i in run_inside c.args.buckets c.args.records c.args.trace.now l.start l.i l.invariant.begins (fits) c.loop-i-test.true in
     omega (arith, inside, c.requires.counts_range.periods.few)
 
 pub overflow_add-end : goal.overflow_add-end
 overflow_add-end c =
-    let fits : c.args.buckets ≤ length c.args.t4 = let l = c.requires.counts_range in omega (arith, l.few, l.periods.few, c.well_formed.1.1.1.0.1.0.1) in
-    let inside : let s = c.args in c.loop-i.start + (get_or s.t4 c.loop-i.i no_record).periods ≤ length s.trace.now = let l = c.loop-i in run_inside c.args.buckets c.args.t4 c.args.trace.now l.start l.i l.invariant.begins (fits) c.loop-i-test.true in
+    let fits : c.args.buckets ≤ length c.args.records = let l = c.requires.counts_range in omega (arith, l.few, l.periods.few) in
+    let inside : let s = c.args in c.loop-i.start + (get_or s.records c.loop-i.i no_record).periods ≤ length s.trace.now = let l = c.loop-i in run_inside c.args.buckets c.args.records c.args.trace.now l.start l.i l.invariant.begins (fits) c.loop-i-test.true in
     omega (arith, inside, c.requires.counts_range.periods.few)
 
 pub offset_bounds-trace-start : goal.offset_bounds-trace-start
 offset_bounds-trace-start c =
-    let fits : c.args.buckets ≤ length c.args.t4 = let l = c.requires.counts_range in omega (arith, l.few, l.periods.few, c.well_formed.1.1.1.0.1.0.1) in
-    let inside : let s = c.args in c.loop-i.start + (get_or s.t4 c.loop-i.i no_record).periods ≤ length s.trace.now = let l = c.loop-i in run_inside c.args.buckets c.args.t4 c.args.trace.now l.start l.i l.invariant.begins (fits) c.loop-i-test.true in
+    let fits : c.args.buckets ≤ length c.args.records = let l = c.requires.counts_range in omega (arith, l.few, l.periods.few) in
+    let inside : let s = c.args in c.loop-i.start + (get_or s.records c.loop-i.i no_record).periods ≤ length s.trace.now = let l = c.loop-i in run_inside c.args.buckets c.args.records c.args.trace.now l.start l.i l.invariant.begins (fits) c.loop-i-test.true in
     omega (arith, inside, c.requires.counts_range.periods.few)
 
 pub slice_bounds-meter_run-end : goal.slice_bounds-meter_run-end
 slice_bounds-meter_run-end c =
-    let fits : c.args.buckets ≤ length c.args.t4 = let l = c.requires.counts_range in omega (arith, l.few, l.periods.few, c.well_formed.1.1.1.0.1.0.1) in
-    let inside : let s = c.args in c.loop-i.start + (get_or s.t4 c.loop-i.i no_record).periods ≤ length s.trace.now = let l = c.loop-i in run_inside c.args.buckets c.args.t4 c.args.trace.now l.start l.i l.invariant.begins (fits) c.loop-i-test.true in
+    let fits : c.args.buckets ≤ length c.args.records = let l = c.requires.counts_range in omega (arith, l.few, l.periods.few) in
+    let inside : let s = c.args in c.loop-i.start + (get_or s.records c.loop-i.i no_record).periods ≤ length s.trace.now = let l = c.loop-i in run_inside c.args.buckets c.args.records c.args.trace.now l.start l.i l.invariant.begins (fits) c.loop-i-test.true in
     inside
 
 pub returns-in-Refused : goal.returns-in-Refused
 returns-in-Refused c =
-    let fits : c.args.buckets ≤ length c.args.t4 = let l = c.requires.counts_range in omega (arith, l.few, l.periods.few, c.well_formed.1.1.1.0.1.0.1) in
-    let ran : let l = c.loop-i in let s = c.args in let x = get_or s.t4 l.i no_record in open_says c.meter_run.result ≡ meter_run x.bucket s.factor (take x.periods (drop l.start s.trace.now)) = let l = c.loop-i in let s = c.args in let x = get_or s.t4 l.i no_record in c.meter_run.ensures ∙ ap (meter_run x.bucket s.factor) (part-is s.trace.now l.start x.periods) in
+    let fits : c.args.buckets ≤ length c.args.records = let l = c.requires.counts_range in omega (arith, l.few, l.periods.few) in
+    let ran : let l = c.loop-i in let s = c.args in let x = get_or s.records l.i no_record in open_says c.meter_run.result ≡ meter_run x.bucket s.factor (take x.periods (drop l.start s.trace.now)) = let l = c.loop-i in let s = c.args in let x = get_or s.records l.i no_record in c.meter_run.ensures ∙ ap (meter_run x.bucket s.factor) (part-is s.trace.now l.start x.periods) in
     run-refused _ _ _ _ c.loop-i.invariant (fits) c.loop-i-test.true _ (ran) _ (ap open_says c.in-Refused.is)
 
 pub with-totals-requires : goal.with-totals-requires
 with-totals-requires c =
-    let ran : let l = c.loop-i in let s = c.args in let x = get_or s.t4 l.i no_record in open_says c.meter_run.result ≡ meter_run x.bucket s.factor (take x.periods (drop l.start s.trace.now)) = let l = c.loop-i in let s = c.args in let x = get_or s.t4 l.i no_record in c.meter_run.ensures ∙ ap (meter_run x.bucket s.factor) (part-is s.trace.now l.start x.periods) in
-    let sound : (m : Meter) → open_says c.meter_run.result ≡ figures m → Sound m = λ m e. let l = c.loop-i in let ds = c.args.trace.now in let x = get_or c.args.t4 l.i no_record in let h : Demands ds = record { each = λ j. omega (arith, c.shared_slice_known-1.given j) } in metered-sound x.bucket c.args.factor (take x.periods (drop l.start ds)) (demands-take x.periods _ (demands-drop l.start ds h)) (omega (arith, c.requires.counts_range.periods.few, length-take x.periods (drop l.start ds), length-drop l.start ds)) m (sym (ran) ∙ e) in
+    let ran : let l = c.loop-i in let s = c.args in let x = get_or s.records l.i no_record in open_says c.meter_run.result ≡ meter_run x.bucket s.factor (take x.periods (drop l.start s.trace.now)) = let l = c.loop-i in let s = c.args in let x = get_or s.records l.i no_record in c.meter_run.ensures ∙ ap (meter_run x.bucket s.factor) (part-is s.trace.now l.start x.periods) in
+    let sound : (m : Meter) → open_says c.meter_run.result ≡ figures m → Sound m = λ m e. let l = c.loop-i in let ds = c.args.trace.now in let x = get_or c.args.records l.i no_record in let h : Demands ds = record { each = λ j. omega (arith, c.type_inv.trace j) } in metered-sound x.bucket c.args.factor (take x.periods (drop l.start ds)) (demands-take x.periods _ (demands-drop l.start ds h)) (omega (arith, c.requires.counts_range.periods.few, length-take x.periods (drop l.start ds), length-drop l.start ds)) m (sym (ran) ∙ e) in
     let few = c.loop-i.invariant.few in
     let l = c.requires.counts_range in
     let t = c.loop-i-test.true in record {
@@ -76,9 +75,9 @@ overflow_add-i c =
 
 pub loop-i-preserved : goal.loop-i-preserved
 loop-i-preserved c =
-    let fits : c.args.buckets ≤ length c.args.t4 = let l = c.requires.counts_range in omega (arith, l.few, l.periods.few, c.well_formed.1.1.1.0.1.0.1) in
-    let ran : let l = c.loop-i in let s = c.args in let x = get_or s.t4 l.i no_record in open_says c.meter_run.result ≡ meter_run x.bucket s.factor (take x.periods (drop l.start s.trace.now)) = let l = c.loop-i in let s = c.args in let x = get_or s.t4 l.i no_record in c.meter_run.ensures ∙ ap (meter_run x.bucket s.factor) (part-is s.trace.now l.start x.periods) in
-    let sound : (m : Meter) → open_says c.meter_run.result ≡ figures m → Sound m = λ m e. let l = c.loop-i in let ds = c.args.trace.now in let x = get_or c.args.t4 l.i no_record in let h : Demands ds = record { each = λ j. omega (arith, c.shared_slice_known-1.given j) } in metered-sound x.bucket c.args.factor (take x.periods (drop l.start ds)) (demands-take x.periods _ (demands-drop l.start ds h)) (omega (arith, c.requires.counts_range.periods.few, length-take x.periods (drop l.start ds), length-drop l.start ds)) m (sym (ran) ∙ e) in
+    let fits : c.args.buckets ≤ length c.args.records = let l = c.requires.counts_range in omega (arith, l.few, l.periods.few) in
+    let ran : let l = c.loop-i in let s = c.args in let x = get_or s.records l.i no_record in open_says c.meter_run.result ≡ meter_run x.bucket s.factor (take x.periods (drop l.start s.trace.now)) = let l = c.loop-i in let s = c.args in let x = get_or s.records l.i no_record in c.meter_run.ensures ∙ ap (meter_run x.bucket s.factor) (part-is s.trace.now l.start x.periods) in
+    let sound : (m : Meter) → open_says c.meter_run.result ≡ figures m → Sound m = λ m e. let l = c.loop-i in let ds = c.args.trace.now in let x = get_or c.args.records l.i no_record in let h : Demands ds = record { each = λ j. omega (arith, c.type_inv.trace j) } in metered-sound x.bucket c.args.factor (take x.periods (drop l.start ds)) (demands-take x.periods _ (demands-drop l.start ds h)) (omega (arith, c.requires.counts_range.periods.few, length-take x.periods (drop l.start ds), length-drop l.start ds)) m (sym (ran) ∙ e) in
     let e = ap open_says c.in-Opened.is in
     one_metered _ _ _ _ c.loop-i.invariant (fits) c.loop-i-test.true _ (ran) _ e (sound _ e) _ c.with-totals.ensures
 

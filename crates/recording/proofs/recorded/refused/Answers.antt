@@ -1,6 +1,5 @@
 -- The answer is that refusal, and the array is blank.
 use mathlib.Core.Path.{refl}
-use borrow.Author.Rules.{rules}
 use Rattle.recording.proofs.recorded.refused.Goals as goal
 
 pub returns : goal.returns

@@ -4,7 +4,6 @@ use Rattle.terms.specs.Answer.{on_figures}
 use Rattle.recording.specs.declared.metering.TotalsAnswer.{TotalsAnswer}
 use Rattle.recording.specs.MeteringLaws.{totals_says}
 use Rattle.recording.specs.RecordingLaws.{with_meters}
-use borrow.Author.Rules.{rules}
 use Rattle.recording.proofs.recorded.with_meters.Goals as goal
 
 pub returns-in-Metered : goal.returns-in-Metered

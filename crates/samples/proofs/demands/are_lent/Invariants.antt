@@ -1,6 +1,5 @@
 -- Each entry from the start on is compared at most once.
 use Prim.Native.Nat.{◌-◌, ◌≤◌}
-use borrow.Author.Rules.{rules}
 use Rattle.samples.proofs.demands.are_lent.Given as goal
 
 abbrev pub invariant-loop-i : goal.invariant-loop-i

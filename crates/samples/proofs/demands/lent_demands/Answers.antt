@@ -2,7 +2,6 @@
 use mathlib.Core.Path.{sym}
 use lib.Seq.{length-take-le}
 use native.Mathlib.Omega.{arith}
-use borrow.Author.Rules.{rules}
 use Rattle.samples.proofs.demands.lent_demands.Goals as goal
 
 pub slice_bounds-result-end : goal.slice_bounds-result-end

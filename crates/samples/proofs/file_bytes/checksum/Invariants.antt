@@ -1,6 +1,5 @@
 -- Each byte enters once.
 use Prim.Native.Nat.{◌-◌, ◌≤◌}
-use borrow.Author.Rules.{rules}
 use Rattle.samples.proofs.file_bytes.checksum.Given as goal
 
 abbrev pub invariant-loop-i : goal.invariant-loop-i

@@ -1,7 +1,6 @@
 -- Each byte from the start on is compared at most once.
 use Prim.Native.Nat.{◌+◌, ◌-◌, ◌≤◌}
 use Rattle.plan_file.specs.Plan.{longest_plan}
-use borrow.Author.Rules.{rules}
 use Rattle.samples.proofs.file_bytes.is_lent.Given as goal
 
 abbrev pub invariant-loop-i : goal.invariant-loop-i

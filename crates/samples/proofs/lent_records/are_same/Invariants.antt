@@ -1,6 +1,5 @@
 -- Each record from the start on is compared at most once.
 use Prim.Native.Nat.{◌-◌, ◌≤◌}
-use borrow.Author.Rules.{rules}
 use Rattle.samples.proofs.lent_records.are_same.Given as goal
 
 abbrev pub invariant-loop-i : goal.invariant-loop-i

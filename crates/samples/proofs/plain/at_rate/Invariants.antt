@@ -1,6 +1,5 @@
 -- Each depth is weighed once; nothing is asked of what is found.
 use Prim.Native.Nat.{◌-◌, ◌≤◌}
-use borrow.Author.Rules.{rules}
 use Rattle.samples.proofs.plain.at_rate.Given as goal
 
 abbrev pub invariant-loop-depth : goal.invariant-loop-depth

@@ -1,6 +1,5 @@
 -- Each rate is weighed once; nothing is asked of what is found.
 use Prim.Native.Nat.{◌-◌, ◌≤◌}
-use borrow.Author.Rules.{rules}
 use Rattle.samples.proofs.plain.cheapest.Given as goal
 
 abbrev pub invariant-loop-rate : goal.invariant-loop-rate

@@ -1,6 +1,5 @@
 -- Each depth is weighed once.
 use Prim.Native.Nat.{◌-◌, ◌≤◌}
-use borrow.Author.Rules.{rules}
 use Rattle.samples.proofs.plain.smallest.Given as goal
 
 abbrev pub invariant-loop-depth : goal.invariant-loop-depth

@@ -77,5 +77,5 @@ returns c =
     let s = c.args in
     let all = subst (λ (a : Answer Cutting). (series_says c.cheapest.result.answer ≡ plan_of s.tariff a) × (c.cheapest.result.records ≡ held a))
     (past-tests s.tariff s.room s.trace.now (periods) (figures) (le-leb _ _ c.if-room-periods.false))
-    c.cheapest.ensures in
+    (c.cheapest.ensures.answer_value, c.cheapest.ensures.records_value) in
     record { answer_value = all.0; records_value = all.1 }

@@ -56,17 +56,15 @@ end t ds costs₀ counts₀ firsts₀ next costs counts firsts begin k l =
 
 pub best_first-best-requires : goal.best_first-best-requires
 best_first-best-requires c =
-    let s = i.before.before.before.before.before.before in
     let k = c.loop-next.invariant in
-    record { begin_bound = k.rate; far = far_all; rests = left-rests _ s.requires.1.0 _ (few-left s.args.trace.now (c.loop-next.next - 1) s.requires.0) _ _ (left _ _ _ _ _ _ _ _ _ _ k c.loop-next-test.true) }
+    record { begin_bound = k.rate; far = far_all; rests = left-rests _ c.requires.tariff_range _ (few-left c.args.trace.now (c.loop-next.next - 1) c.requires.trace_len_bound) _ _ (left _ _ _ _ _ _ _ _ _ _ k c.loop-next-test.true) }
 
 pub loop-next-preserved : goal.loop-next-preserved
 loop-next-preserved c =
-    let s = i.before.before.before.before.before.before in
     let k = c.loop-next.invariant in
     let f = c.best_first-best.ensures in
     step _ _ _ _ _ _ _ _ _ _ k c.loop-next-test.true _
-    (search_found _ s.requires.1.0 _ (few-left s.args.trace.now (c.loop-next.next - 1) s.requires.0) _ _ (left _ _ _ _ _ _ _ _ _ _ k c.loop-next-test.true) _ f)
+    (search_found _ c.requires.tariff_range _ (few-left c.args.trace.now (c.loop-next.next - 1) c.requires.trace_len_bound) _ _ (left _ _ _ _ _ _ _ _ _ _ k c.loop-next-test.true) _ f)
     f.rate
 
 pub returns : goal.returns

@@ -1,5 +1,4 @@
 -- Both parts are as their own checks give them.
-use borrow.Author.Rules.{rules}
 use Rattle.terms.proofs.ranges.fresh_in_range.Goals as goal
 
 pub returns : goal.returns

@@ -1,5 +1,4 @@
 -- The range is the run's own and the bucket's as its own check gives it.
-use borrow.Author.Rules.{rules}
 use Rattle.terms.proofs.ranges.record_in_range.Goals as goal
 
 pub returns : goal.returns

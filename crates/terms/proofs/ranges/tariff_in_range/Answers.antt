@@ -1,5 +1,4 @@
 -- The range is the conjunction of the figures' ranges, the factor's as its own check gives it.
-use borrow.Author.Rules.{rules}
 use Rattle.terms.proofs.ranges.tariff_in_range.Goals as goal
 
 pub returns : goal.returns

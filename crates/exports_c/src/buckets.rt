@@ -1,0 +1,44 @@
+// One bucket for an order, as figures: the depth at a rate, the single bucket, and the trial.
+ghost use Rattle.std.specs.Prelude.{◌≡◌};
+ghost use Rattle.terms.specs.Answer.{figure_or, on_figures};
+ghost use Rattle.single.specs.Single.{bucket_of};
+ghost use Rattle.services.specs.Services.{depth_for, depth_from_end_for, single_for, trial_for};
+ghost use Rattle.exports.specs.Answers.{coded};
+
+// The smallest depth that carries an order's trace at a rate; or refusal 1 to 5 of the order, 5 of the
+// rate or 7.
+#[unsafe(no_mangle)]
+pub extern "C" fn metqoraz_depth(order: &[u8], rate: u32) -> u64
+    ensures { result ≡ coded (depth_for rate order.now) }
+{
+    exports::metqoraz_depth(order, rate)
+}
+
+// The same where the order's demands stand in archive order, last period first.
+#[unsafe(no_mangle)]
+pub extern "C" fn metqoraz_depth_from_end(order: &[u8], rate: u32) -> u64
+    ensures { result ≡ coded (depth_from_end_for rate order.now) }
+{
+    exports::metqoraz_depth_from_end(order, rate)
+}
+
+// The single bucket for an order: its rate and depth into the two numbers; answers its cost, or refusal
+// 1 to 5 of the order or 7, and the numbers are as they were.
+#[unsafe(no_mangle)]
+pub extern "C" fn metqoraz_single(order: &[u8], rate: &mut u32, depth: &mut u32) -> u64
+    ensures value { result ≡ coded (on_figures (λ s. s.cost) (single_for order.now)) }
+    ensures rate_after { rate.new ≡ figure_or (on_figures (λ s. s.bucket.rate.0) (single_for order.now)) rate.old }
+    ensures depth_after { depth.new ≡ figure_or (on_figures (λ s. s.bucket.depth.0) (single_for order.now)) depth.old }
+{
+    exports::metqoraz_single(order, rate, depth)
+}
+
+// The trial of a bucket on an order's trace: its spare into the number; answers what is discarded, or
+// refusal 1 to 5 of the order or 5 of the bucket, and the number is as it was.
+#[unsafe(no_mangle)]
+pub extern "C" fn metqoraz_trial(order: &[u8], rate: u32, depth: u32, spare: &mut i64) -> u64
+    ensures value { result ≡ coded (on_figures (λ t. t.over) (trial_for (bucket_of rate depth) order.now)) }
+    ensures spare_after { spare.new ≡ figure_or (on_figures (λ t. t.spare) (trial_for (bucket_of rate depth) order.now)) spare.old }
+{
+    exports::metqoraz_trial(order, rate, depth, spare)
+}
