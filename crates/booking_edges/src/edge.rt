@@ -53,7 +53,8 @@ fn book_in(rt: &impl Print, order: &[u8], rooms: Rooms) {
     let booking = booking_of(answer);
     let buckets = booking.plan.buckets as usize;
     let length = booking.length;
-    report::kept(rt, 
+    report::kept(
+        rt,
         are_lent(&demands, booking.plan.periods as usize)
             & are_kept(plan, buckets)
             & is_lent(&bytes, length)
@@ -75,7 +76,13 @@ fn print_answer(rt: &impl Print, answer: BookingAnswer) {
             let plan = x.plan;
             report::plan(rt, PlanAnswer::Read(plan));
             report::figure(rt, b" length", x.length as u64);
-            report::totals(rt, x.meters.sent, x.meters.over, x.meters.lost, x.meters.held);
+            report::totals(
+                rt,
+                x.meters.sent,
+                x.meters.over,
+                x.meters.lost,
+                x.meters.held,
+            );
         }
         BookingAnswer::Refused(x) => report::refusal(rt, x),
     }

@@ -10,7 +10,12 @@ use samples::lent_records::{ENTRIES, are_same, at_most, filled};
 use terms::{Bucket, BucketRecord};
 
 // What reading the front of the bytes gives, and whether its records are those in the list.
-pub fn read_again(rt: &impl Print, bytes: &[u8; LENT_BYTES], length: usize, list: [BucketRecord; ENTRIES]) {
+pub fn read_again(
+    rt: &impl Print,
+    bytes: &[u8; LENT_BYTES],
+    length: usize,
+    list: [BucketRecord; ENTRIES],
+) {
     let lent = read_on(front(bytes, length), filled(), ENTRIES);
     let answer = lent.answer;
     let read = lent.list;
@@ -25,7 +30,12 @@ pub fn read_again(rt: &impl Print, bytes: &[u8; LENT_BYTES], length: usize, list
 
 // A line for each run until the order's last period: its first and last period, its bucket, and what
 // its meter ended with.
-pub fn print_runs(rt: &impl Print, order: &[u8], demands: &[u16; ENTRIES], list: [BucketRecord; ENTRIES]) {
+pub fn print_runs(
+    rt: &impl Print,
+    order: &[u8],
+    demands: &[u16; ENTRIES],
+    list: [BucketRecord; ENTRIES],
+) {
     let OrderAnswer::Read(x) = read_order(order) else {
         return;
     };
@@ -40,7 +50,8 @@ pub fn print_runs(rt: &impl Print, order: &[u8], demands: &[u16; ENTRIES], list:
         let bucket = record.bucket;
         report::figure(rt, b"periods", start as u64 + 1);
         report::figure(rt, b" to", end as u64);
-        print_meter(rt, 
+        print_meter(
+            rt,
             bucket,
             meter_run(bucket, factor, part_of(demands, start, end)),
         );

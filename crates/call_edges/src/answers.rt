@@ -20,11 +20,17 @@ pub fn named(rt: &impl Print, line: &[u8]) {
 fn answer(rt: &impl Print, kind: u8, figures: &[u8], trace: &[u16], last: u32) {
     match kind {
         b'f' => range(rt, tariff_of(figures)),
-        b't' => report::trial(rt, bucket::trial(bucket_of(figures), factor_of(figures), trace)),
+        b't' => report::trial(
+            rt,
+            bucket::trial(bucket_of(figures), factor_of(figures), trace),
+        ),
         b'o' => print_meter(rt, open_meter(bucket_of(figures), factor_of(figures))),
         b'r' => print_meter(rt, meter_run(bucket_of(figures), factor_of(figures), trace)),
         b'd' => report::depth(rt, depth::depth_at(trace, Rate(last), tariff_of(figures))),
-        b'e' => report::depth(rt, depth::depth_from_end(trace, Rate(last), tariff_of(figures))),
+        b'e' => report::depth(
+            rt,
+            depth::depth_from_end(trace, Rate(last), tariff_of(figures)),
+        ),
         b'c' => report::explained(rt, causes::explain(trace, Rate(last), tariff_of(figures))),
         b'b' => report::single(rt, single::single(trace, tariff_of(figures))),
         b's' => series(rt, trace, tariff_of(figures), last as usize),

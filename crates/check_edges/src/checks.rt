@@ -32,7 +32,8 @@ fn put_order(line: &[u8], file: &mut [u8]) -> usize {
 
 fn with_plan(rt: &impl Print, line: &[u8], order: &[u8]) {
     let plan = file_of(field(line, 6));
-    named(rt, 
+    named(
+        rt,
         line,
         order,
         front(&plan, figure(field(line, 5), 0) as usize),
@@ -100,7 +101,8 @@ fn print_lines(rt: &impl Print, order: &[u8], plan: &[u8], room: usize) {
     let same = check_files(joined(&files, length), lent_front(&mut other, room));
     report::words(rt, b", files");
     print_line(rt, same, &other);
-    report::kept(rt, 
+    report::kept(
+        rt,
         is_lent(&text, report::filled_of(answer)) & is_lent(&other, report::filled_of(same)),
     );
 }

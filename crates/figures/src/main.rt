@@ -41,10 +41,16 @@ fn case(rt: &impl Print, line: &[u8]) {
 fn answer(rt: &impl Print, kind: u8, figures: &[u8], trace: &[u16], rate: Rate) {
     match kind {
         b'd' => report::depth(rt, metqoraz::depth_at(trace, rate, tariff_of(figures))),
-        b'e' => report::depth(rt, metqoraz::depth_from_end(trace, rate, tariff_of(figures))),
+        b'e' => report::depth(
+            rt,
+            metqoraz::depth_from_end(trace, rate, tariff_of(figures)),
+        ),
         b'c' => report::explained(rt, metqoraz::explain(trace, rate, tariff_of(figures))),
         b'b' => report::single(rt, metqoraz::single(trace, tariff_of(figures))),
-        b't' => report::trial(rt, metqoraz::trial(bucket_of(figures), factor_of(figures), trace)),
+        b't' => report::trial(
+            rt,
+            metqoraz::trial(bucket_of(figures), factor_of(figures), trace),
+        ),
         b's' => print_series(rt, trace, tariff_of(figures)),
         _ => report::words(rt, b": no such case\n"),
     }

@@ -14,7 +14,8 @@ use terms::Tariff;
 pub fn write_case(rt: &impl Print, line: &[u8]) {
     let mut room = [0u16; DEMANDS];
     let count = trace(field(line, 2), &mut room);
-    write(rt, 
+    write(
+        rt,
         tariff_of(field(line, 1)),
         demands(&room, count),
         entries(field(line, 3)),

@@ -10,7 +10,8 @@ use samples::lent_records::filled;
 pub fn read_case(rt: &impl Print, line: &[u8]) {
     let file = file_of(field(line, 3));
     report::words(rt, field(line, 1));
-    read_into(rt, 
+    read_into(
+        rt,
         front(&file, entries(field(line, 2))),
         entries(field(line, 4)),
     );

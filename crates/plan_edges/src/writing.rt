@@ -9,7 +9,8 @@ use samples::lent_records::{ENTRIES, record_of};
 use terms::BucketRecord;
 
 pub fn write_case(rt: &impl Print, line: &[u8]) {
-    edge(rt, 
+    edge(
+        rt,
         plan(field(line, 1)),
         bucket(field(line, 2)),
         bucket(field(line, 3)),
@@ -31,7 +32,14 @@ fn bucket(field: &[u8]) -> BucketRecord {
 }
 
 // One edge: a plan of these figures and records, from a list of so many entries into so many bytes.
-fn edge(rt: &impl Print, plan: PlanFigures, first: BucketRecord, last: BucketRecord, entries: usize, length: usize) {
+fn edge(
+    rt: &impl Print,
+    plan: PlanFigures,
+    first: BucketRecord,
+    last: BucketRecord,
+    entries: usize,
+    length: usize,
+) {
     let mut list = [record_of(0, 9999, 2_000_000); ENTRIES];
     list[0] = first;
     list[1] = last;

@@ -26,7 +26,8 @@ fn longer(rt: &impl Print) {
     let mut file = feature_order(tariff_of(b"20 1 1000000 2 3 4095 1000000"));
     file[4] = 1;
     file[16] = 50;
-    services(rt, 
+    services(
+        rt,
         front(&file, LONGEST_ORDER + 2),
         bucket_of(b"4095 1000"),
         LENT_BYTES,

@@ -14,7 +14,8 @@ pub fn services_case(rt: &impl Print, line: &[u8]) {
         report::words(rt, name);
         report::end_line(rt);
     }
-    services_of(rt, 
+    services_of(
+        rt,
         tariff_of(field(line, 2)),
         demands(&room, count),
         bucket_of(field(line, 4)),

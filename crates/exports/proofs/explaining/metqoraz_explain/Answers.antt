@@ -14,9 +14,21 @@ number figure x = figure (cause_numbers x.cause)
 
 pub returns-in-Refused : goal.returns-in-Refused
 returns-in-Refused c =
-    let e = sym c.explain_for.ensures ∙ ap explain_says c.in-Refused.is in record { value = code_refused _ (λ x. x.depth) _ _ e c.coded_refusal.ensures; cause_after = number_kept _ (number (λ n. n.cause)) _ _ e; first_after = number_kept _ (number (λ n. n.first)) _ _ e; last_after = number_kept _ (number (λ n. n.last)) _ _ e }
+    let e = sym c.explain_for.ensures ∙ ap explain_says c.in-Refused.is in
+    record {
+      value = code_refused _ (λ x. x.depth) _ _ e c.coded_refusal.ensures;
+      cause_after = number_kept _ (number (λ n. n.cause)) _ _ e;
+      first_after = number_kept _ (number (λ n. n.first)) _ _ e;
+      last_after = number_kept _ (number (λ n. n.last)) _ _ e;
+    }
 
 pub returns : goal.returns
 returns c =
     let e = sym c.explain_for.ensures ∙ ap explain_says c.in-Found.is in
-    let n = c.numbers_of-numbers.ensures in record { value = code_found _ (λ c. c.LOOK.depth) _ e; cause_after = ap (λ (m : CauseNumbers). m.cause) n ∙ number_found _ (number (λ m. m.cause)) _ _ e; first_after = ap (λ (m : CauseNumbers). m.first) n ∙ number_found _ (number (λ m. m.first)) _ _ e; last_after = ap (λ (m : CauseNumbers). m.last) n ∙ number_found _ (number (λ m. m.last)) _ _ e }
+    let n = c.numbers_of-numbers.ensures in
+    record {
+      value = code_found _ (λ x. x.depth) _ e;
+      cause_after = ap (λ (m : CauseNumbers). m.cause) n ∙ number_found _ (number (λ m. m.cause)) _ _ e;
+      first_after = ap (λ (m : CauseNumbers). m.first) n ∙ number_found _ (number (λ m. m.first)) _ _ e;
+      last_after = ap (λ (m : CauseNumbers). m.last) n ∙ number_found _ (number (λ m. m.last)) _ _ e;
+    }

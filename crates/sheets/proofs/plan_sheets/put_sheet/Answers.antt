@@ -8,16 +8,13 @@ put_plan_line-lines-requires c = first_room c.requires.shown c.args.text.now c.r
 
 pub slice_bounds-trace-end : goal.slice_bounds-trace-end
 slice_bounds-trace-end c =
-    let s = c.before.before.before.before.before.before.before.before.before.before.before in
-    trace-length s.requires.0 s.args.text.now s.requires.1
+    trace-length c.requires.shown c.args.text.now c.requires.text_len
 
 pub put_runs-requires : goal.put_runs-requires
 put_runs-requires c =
-    let s = l.before.before.before.before.before.before.before in
-    let all = runs_ready s.requires.0 s.args.text.now s.requires.1 _ _ c.put_plan_line-lines.ensures in
+    let all = runs_ready c.requires.shown c.args.text.now c.requires.text_len _ _ c.put_plan_line-lines.ensures in
     record { buckets_le_trace_limit = all.0; printable = all.1.0; records_in_bounds = all.1.1 }
 
 pub returns : goal.returns
 returns c =
-    let s = l.before.before.before.before.before.before.before in
-    sheet_put s.requires.0 s.args.text.now s.requires.1 _ _ c.put_plan_line-lines.ensures _ _ c.put_runs.ensures
+    sheet_put c.requires.shown c.args.text.now c.requires.text_len _ _ c.put_plan_line-lines.ensures _ _ c.put_runs.ensures
