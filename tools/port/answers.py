@@ -1,6 +1,6 @@
 #!/usr/bin/env python3
-# Turns proofs that gather their goals by `tie.spec` (Proof.antt) into Invariants.antt and Answers.antt. It was run once,
-# after names.py. usage: answers.py NAMES CRATE.., where NAMES is the folder that `rt names NAMES` wrote.
+# Turns proofs that gather their goals by `tie.spec` (Proof.antt) into Invariants.antt and Answers.antt. It was run
+# once, after names.py. usage: answers.py NAMES CRATE.., where NAMES is the folder that `rt names NAMES` wrote.
 # What it cannot turn it leaves in the answer as it stood, and says so on a line 'look:'.
 import glob
 import json

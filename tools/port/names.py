@@ -1,7 +1,7 @@
 #!/usr/bin/env python3
-# Spells the definitions, fields and lemmas of this repository as today's Rattle spells names: words in snake case, a dash
-# only between two names. It was run once, on the tree that port.py left (docs/PORT.md); first.tsv holds the lemmas whose
-# name a definition takes, names.tsv all the rest. Functions of src/, exported names and strings keep theirs.
+# Spells the definitions, fields and lemmas of this repository as today's Rattle spells names: words in snake case, a
+# dash only between two names. It was run once, on the tree that port.py left (docs/PORT.md); first.tsv holds the lemmas
+# whose name a definition takes, names.tsv all the rest. Functions of src/, exported names and strings keep theirs.
 import glob
 import os
 import re

@@ -21,7 +21,7 @@ use Rattle.planning.specs.CallLaws.{spread-front, spread-inside}
 use Rattle.recording.specs.declared.recorded.Booking.{Booking}
 use Rattle.recording.specs.Recording.{booking_says}
 use Rattle.booking.specs.declared.calls.BookedRecords.{BookedRecords}
-use Rattle.booking.specs.Booking.{Lent, Steps, lent, booked, answer_of, lent_after}
+use Rattle.booking.specs.Booking.{Lent, Steps, lent, answer_of, lent_after}
 use Rattle.booking.specs.CallLaws.{Sizes, Called, sizes_of, booked_in}
 use Rattle.booking.specs.Claim.{Claim}
 use Rattle.booking.specs.ClaimLaws.{booked-sizes, claim-holds}

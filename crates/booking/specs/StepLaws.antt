@@ -21,7 +21,7 @@ use Rattle.plan_file.specs.PlanLaws.{file-read}
 use Rattle.plan_file.specs.PlanRules.{counts_ok_lem, write_figures_lem}
 use Rattle.plan_file.specs.RecordLaws.{RecordsRange, records_ok_lem}
 use Rattle.planning.specs.Planning.{Planned}
-use Rattle.planning.specs.PlannedLaws.{IsPlanned, is-planned, planned-cheapest}
+use Rattle.planning.specs.PlannedLaws.{IsPlanned, planned-cheapest}
 use Rattle.recording.specs.Recording.{Recording, read_back, meters_of}
 use Rattle.booking.specs.Booking.{Steps, plan_figures}
 use Rattle.booking.specs.BookingLaws.{PlanRange, NothingOver, carried_plan, carried-meters, file-demands, planned-demands}

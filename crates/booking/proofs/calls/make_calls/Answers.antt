@@ -3,7 +3,6 @@ use mathlib.Core.Path.{sym, ap}
 use Rattle.planning.specs.Planning.{planned_says}
 use Rattle.planning.specs.CallLaws.{trace-count, trace-inside}
 use Rattle.booking.specs.CallLaws.{planning-refused, plan-recorded}
-use borrow.Author.Rules.{rules}
 use Rattle.booking.proofs.calls.make_calls.Goals as goal
 
 pub returns-in-Refused : goal.returns-in-Refused

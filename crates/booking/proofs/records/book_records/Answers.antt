@@ -6,7 +6,6 @@ use lib.Seq.{length-take-le}
 use Rattle.encoding.specs.NumberLaws.{Bytes}
 use Rattle.recording.specs.Recording.{booking_says}
 use Rattle.booking.specs.RecordLaws.{order-booked, order-refused, periods-inside}
-use borrow.Author.Rules.{rules}
 use Rattle.booking.proofs.records.book_records.Goals as goal
 
 pub returns-in_default : goal.returns-in_default

@@ -2,7 +2,6 @@
 use mathlib.Core.Path.{sym, ap, ◌∙◌}
 use Rattle.encoding.specs.FillLaws.{refused_fills, found_fills}
 use Rattle.checking.specs.Check.{check_says}
-use borrow.Author.Rules.{rules}
 use Rattle.checking.proofs.lines.check_line.Goals as goal
 
 pub returns-in-Yes : goal.returns-in-Yes

@@ -5,7 +5,6 @@ use lib.ListN.{length}
 use Rattle.text.specs.FittedLaws.{zeros, ready_count, ready_inside, ready_fills}
 use Rattle.text.specs.Lines.{yes_line}
 use Rattle.text.specs.LineLaws.{longest_verdict, yes-short}
-use borrow.Author.Rules.{rules}
 use Rattle.checking.proofs.lines.yes_line.Goals as goal
 
 pub put_yes_line-length-requires : goal.put_yes_line-length-requires

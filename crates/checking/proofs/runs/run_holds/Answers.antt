@@ -6,7 +6,6 @@ use Rattle.terms.specs.AnswerLaws.{figures-refused, same-figures}
 use Rattle.bucket.specs.declared.trials.TrialFigures.{TrialFigures}
 use Rattle.bucket.specs.Trial.{trial_says}
 use Rattle.bucket.specs.TrialLaws.{nothing-over, tried}
-use borrow.Author.Rules.{rules}
 use Rattle.checking.proofs.runs.run_holds.Goals as goal
 
 pub returns-in_default : goal.returns-in_default

@@ -2,13 +2,11 @@
 use mathlib.Core.Path.{◌≡◌, refl, ap, ◌∙◌}
 use mathlib.Core.Bool.{true, false}
 use Rattle.terms.specs.Answer.{figures, on_figures}
-use Rattle.terms.specs.Bools.{check_passed, check_failed}
 use Rattle.series.specs.Series.{series_says}
 use Rattle.plan_file.specs.Plan.{Recorded}
 use Rattle.checking.specs.Check.{least_cost, plan_ok}
 use Rattle.checking.specs.VerdictLaws.{holds-least, least-planned, verdict-is}
 use Rattle.checking.specs.WeighLaws.{stated_plan}
-use borrow.Author.Rules.{rules}
 use mathlib.Core.Path.{sym}
 use Rattle.checking.proofs.verdicts.verdict.Goals as goal
 

@@ -33,7 +33,7 @@ bounds-depths-i c =
 
 pub loop-i-preserved : goal.loop-i-preserved
 loop-i-preserved c =
-    let fits : c.args.count ≤ length c.args.t1 = omega (arith, c.requires.count_le_trace_limit, c.well_formed.0.1.0.1) in
+    let fits : c.args.count ≤ length c.args.records = omega (arith, c.requires.count_le_trace_limit) in
     let w = c.loop-i.invariant in
     let l = fits in
     record {
@@ -53,7 +53,7 @@ shape_of-depths c = c.loop-i.invariant.depths-stored.same
 
 pub returns : goal.returns
 returns c =
-    let fits : c.args.count ≤ length c.args.t1 = omega (arith, c.requires.count_le_trace_limit, c.well_formed.0.1.0.1) in
+    let fits : c.args.count ≤ length c.args.records = omega (arith, c.requires.count_le_trace_limit) in
     let room : let a = c.args in Rooms a.count a.runs.now a.rates.now a.depths.now = let a = c.args in rooms a.count a.runs.now a.rates.now a.depths.now c.requires.count_bound in
     let w = c.loop-i.invariant in
     let h = c.loop-i-test.false in (

@@ -28,6 +28,7 @@ tariff_of-requires c = omega (arith, c.if-figures-ne-TARIFF_FIGURES.false)
 pub returns : goal.returns
 returns c =
     let s = c.args in
+    let w = c.write_order.ensures in
     let k = order-written s.figures.now s.demands.now s.bytes.now ((sym c.periods_in_range.ensures ∙ c.if-not-periods_in_range.false)) (eq-eqb (length s.figures.now) 7 c.if-figures-ne-TARIFF_FIGURES.false)
-    _ _ (rw c.tariff_of.ensures at c.write_order.ensures) in
+    _ _ (rw c.tariff_of.ensures at w.result_value, rw c.tariff_of.ensures at w.bytes_after) in
     record { value = c.coded_fill.ensures ∙ ap coded k.0; bytes_after = k.1 }

@@ -15,5 +15,6 @@ returns-in-Refused c =
 pub returns : goal.returns
 returns c =
     let old = c.args.plan.now in
-    let k = file-found _ c.plan_order-planned.result c.plan_order-planned.ensures _ (ap planned_says c.in-Found.is) old _ _ c.write_records.ensures in
+    let w = c.write_records.ensures in
+    let k = file-found _ c.plan_order-planned.result c.plan_order-planned.ensures _ (ap planned_says c.in-Found.is) old _ _ (w.result_value, w.bytes_after) in
     record { value = c.coded_fill.ensures ∙ ap coded k.0; plan_after = k.1 }

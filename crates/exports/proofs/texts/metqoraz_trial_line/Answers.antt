@@ -5,4 +5,4 @@ use borrow.Author.Rules.{rules}
 use Rattle.exports.proofs.texts.metqoraz_trial_line.Goals as goal
 
 pub returns : goal.returns
-returns c = let e = c.trial_line.ensures in record { value = c.coded_fill.ensures ∙ ap coded e.0; text_after = e.1 }
+returns c = let e = c.trial_line.ensures in record { value = c.coded_fill.ensures ∙ ap coded e.result_value; text_after = e.text_after }

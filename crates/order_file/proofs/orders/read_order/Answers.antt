@@ -8,7 +8,6 @@ use borrow.Author.Tests.{le-leb, lt-leb, eq-eqb, ne_eqb}
 use lib.Dec.{leb, eqb}
 use lib.ListN.{length}
 use Rattle.terms.specs.Answer.{figures}
-use Rattle.terms.specs.Bools.{check_passed, check_failed}
 use Rattle.terms.specs.Ranges.{periods_ok, tariff_ok}
 use Rattle.encoding.specs.Number.{number_at}
 use Rattle.encoding.specs.Header.{placed_as}
@@ -17,7 +16,6 @@ use Rattle.encoding.specs.NumberLaws.{Bytes}
 use Rattle.order_file.specs.Order.{order_kind, order_length, read_order, tariff_offset, trace_offset}
 use Rattle.order_file.specs.OrderLaws.{very_order}
 use Rattle.order_file.specs.OrderRules.{order_placed, order-short, order_foreign, order-periods, order_misplaced, order_figure, order-figures}
-use borrow.Author.Rules.{rules}
 use Rattle.order_file.proofs.orders.read_order.Goals as goal
 
 pub returns-then-bytes-lt-TARIFF_OFFSET : goal.returns-then-bytes-lt-TARIFF_OFFSET

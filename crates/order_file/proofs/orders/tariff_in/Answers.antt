@@ -1,5 +1,4 @@
 -- Each figure is the number that is read at its place.
-use borrow.Author.Rules.{rules}
 use Rattle.order_file.proofs.orders.tariff_in.Goals as goal
 
 pub returns : goal.returns

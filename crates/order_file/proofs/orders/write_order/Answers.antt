@@ -5,7 +5,6 @@ use mathlib.Core.Path.{◌≡◌, sym}
 use mathlib.Core.Bool.{true}
 use borrow.Author.Tests.{le-leb, lt-leb}
 use lib.ListN.{length}
-use Rattle.terms.specs.Bools.{check_passed, check_failed}
 use Rattle.terms.specs.Ranges.{periods_ok, tariff_ok}
 use Rattle.terms.specs.RangeLaws.{periods_range}
 use Rattle.encoding.specs.Number.{bytes_of, bytes_of_all}
@@ -13,7 +12,6 @@ use Rattle.order_file.specs.Order.{order_bytes, order_words, trace_offset}
 use Rattle.order_file.specs.OrderRules.{length-header, length-order, write_periods, write_figure, write_room, write_figures_lem}
 use Rattle.encoding.specs.StoreLaws.{sets_both}
 use Rattle.encoding.specs.FillLaws.{fill_refused, fill_stored}
-use borrow.Author.Rules.{rules}
 use mathlib.Core.Path.{◌∙◌}
 use Rattle.order_file.proofs.orders.write_order.Goals as goal
 

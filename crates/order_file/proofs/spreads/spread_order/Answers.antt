@@ -4,7 +4,6 @@ use Rattle.terms.specs.Answer.{figures}
 use Rattle.encoding.specs.Fill.{fill_says}
 use Rattle.order_file.specs.Order.{order_says, read_order}
 use Rattle.order_file.specs.OrderedLaws.{order-refused, spread-found, spread-refused}
-use borrow.Author.Rules.{rules}
 use Rattle.order_file.proofs.spreads.spread_order.Goals as goal
 
 pub returns-in-Refused : goal.returns-in-Refused

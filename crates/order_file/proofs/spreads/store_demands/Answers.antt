@@ -1,8 +1,5 @@
 -- The entries from the one reached on are left to be stored.
-use Prim.Native.Nat.{◌-◌}
-use lib.ListN.{length}
-use Rattle.encoding.specs.StoreLaws.{Copying, none_stored, copied_inside, copied_next, copied_front}
-use borrow.Author.Rules.{rules}
+use Rattle.encoding.specs.StoreLaws.{none_stored, copied_inside, copied_next, copied_front}
 use Rattle.order_file.proofs.spreads.store_demands.Goals as goal
 
 pub loop-i-init : goal.loop-i-init

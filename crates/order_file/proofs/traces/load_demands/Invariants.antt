@@ -1,15 +1,11 @@
 -- The demands from the place reached on are left to be stored.
-use Prim.Native.Nat.{ℕ, ◌+◌, ◌-◌, ◌*◌, ◌/◌, ◌≤◌, ◌<◌}
-use native.Mathlib.Omega.{arith}
-use mathlib.Core.Path.{◌≡◌, refl, sym, ap, subst, ◌∙◌}
-use mathlib.Core.List.{List, ◌∷◌}
-use borrow.Author.Rules.{rules}
-use lib.ListN.{length, set}
-use lib.Seq.{sets}
+use Prim.Native.Nat.{ℕ, ◌-◌, ◌*◌, ◌/◌}
+use mathlib.Core.Path.{◌≡◌}
+use mathlib.Core.List.{List}
+use lib.ListN.{length}
 use Rattle.encoding.specs.Number.{items_at, number_at}
-use Rattle.order_file.specs.OrderRules.{length-demands}
 use Rattle.order_file.specs.Order.{demands_in}
-use Rattle.encoding.specs.StoreLaws.{Storing, none_stored, one_stored, all_stored, items_next, items_none}
+use Rattle.encoding.specs.StoreLaws.{Storing}
 use Rattle.order_file.proofs.traces.load_demands.Given as goal
 
 pub record Loading (part old new : List ℕ) (at i : ℕ) : Type 0 where

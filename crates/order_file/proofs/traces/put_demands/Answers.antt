@@ -1,9 +1,6 @@
 -- The bytes of the numbers from the one reached on are left to be stored.
-use Prim.Native.Nat.{◌-◌}
 use native.Mathlib.Omega.{arith}
-use borrow.Author.Rules.{rules}
-use lib.ListN.{length}
-use Rattle.encoding.specs.StoreLaws.{Putting, put_begin, put-inside, put_next, put_end}
+use Rattle.encoding.specs.StoreLaws.{put_begin, put-inside, put_next, put_end}
 use Rattle.order_file.proofs.traces.put_demands.Goals as goal
 
 pub loop-i-init : goal.loop-i-init

@@ -5,11 +5,9 @@ use mathlib.Core.Path.{◌≡◌, sym}
 use mathlib.Core.Bool.{true}
 use borrow.Author.Tests.{le-leb, lt-leb}
 use lib.ListN.{length}
-use Rattle.terms.specs.Bools.{check_passed, check_failed}
 use Rattle.order_file.specs.Order.{demands_in, part_ok}
 use Rattle.order_file.specs.OrderRules.{length-demands, spread_odd, spread_full, spread-figures}
 use Rattle.encoding.specs.FillLaws.{fill_refused, fill_stored}
-use borrow.Author.Rules.{rules}
 use mathlib.Core.Path.{◌∙◌}
 use Rattle.order_file.proofs.traces.spread.Goals as goal
 

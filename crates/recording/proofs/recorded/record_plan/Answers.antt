@@ -13,18 +13,6 @@ use Rattle.plan_file.specs.Plan.{plan_says}
 use Rattle.recording.specs.RecordingLaws.{read_taken, back_ready, plan-metered}
 use Rattle.recording.proofs.recorded.record_plan.Goals as goal
 
-pub meter_runs-meters-requires : goal.meter_runs-meters-requires
-meter_runs-meters-requires c =
-    let a = c.args in
-    let size : length a.records ≡ trace_limit = omega arith in
-    let opens : factor_ok a.factor ≡ true = sym c.factor_in_range.ensures ∙ c.if-not-factor_in_range.false in
-    let room : leb a.plan.buckets a.space ≡ true = le-leb _ _ c.if-space-buckets.false in
-    let w = c.in-Filled.ensures in
-    let r = c.read_records-recorded.ensures in
-    let all = back_ready a.plan a.factor a.trace.now a.room a.records size a.bytes.now a.space opens room _ w.bytes_after _ w.result_value
-    c.in-Read.found (sym (ap plan_says c.in-Read.is) ∙ r.answer_value) _ r.records_value c.requires in
-    record { counts_range = all.0; records_value = all.1 }
-
 pub returns-in-Read : goal.returns-in-Read
 returns-in-Read c =
     let a = c.args in
@@ -46,3 +34,15 @@ returns-in-Refused-answer c =
     let w = c.in-Filled.ensures in
     absurd (read_taken a.plan a.factor a.trace.now a.room a.records size a.bytes.now a.space opens room _ w.bytes_after _ w.result_value _
     (sym (ap plan_says c.in-Refused-answer.is) ∙ c.read_records-recorded.ensures.answer_value))
+
+pub meter_runs-meters-requires : goal.meter_runs-meters-requires
+meter_runs-meters-requires c =
+    let a = c.args in
+    let size : length a.records ≡ trace_limit = omega arith in
+    let opens : factor_ok a.factor ≡ true = sym c.factor_in_range.ensures ∙ c.if-not-factor_in_range.false in
+    let room : leb a.plan.buckets a.space ≡ true = le-leb _ _ c.if-space-buckets.false in
+    let w = c.in-Filled.ensures in
+    let r = c.read_records-recorded.ensures in
+    let all = back_ready a.plan a.factor a.trace.now a.room a.records size a.bytes.now a.space opens room _ w.bytes_after _ w.result_value
+    c.in-Read.found (sym (ap plan_says c.in-Read.is) ∙ r.answer_value) _ r.records_value c.requires in
+    record { counts_range = all.0; records_value = all.1 }

@@ -3,7 +3,6 @@ use native.Mathlib.Omega.{arith}
 use mir.Facts.{to_z-of_z}
 use Rattle.text.specs.Megabits.{megabits}
 use Rattle.text.specs.PutLaws.{ended-length, puts_byte, same-room}
-use borrow.Author.Rules.{rules}
 use Rattle.text.proofs.fields.put_figure.Goals as goal
 
 pub put_megabits-end-requires : goal.put_megabits-end-requires

@@ -2,7 +2,6 @@
 use native.Mathlib.Omega.{arith}
 use mir.Facts.{to_z_pos}
 use mir.Syntax.{w64}
-use borrow.Author.Rules.{rules}
 use Rattle.text.proofs.fields.put_tokens.Goals as goal
 
 pub put_figure-requires : goal.put_figure-requires

@@ -1,9 +1,6 @@
 -- The bytes that are stored are the front of the word; behind the last comes the byte.
-use Prim.Native.Nat.{◌-◌}
 use native.Mathlib.Omega.{arith}
-use borrow.Author.Rules.{rules}
-use lib.ListN.{length}
-use Rattle.text.specs.PutLaws.{Copied, none_copied, one_copied, word_copied, same-room, ended-length}
+use Rattle.text.specs.PutLaws.{none_copied, one_copied, word_copied, same-room, ended-length}
 use Rattle.text.proofs.fields.put_word.Goals as goal
 
 pub loop-i-init : goal.loop-i-init

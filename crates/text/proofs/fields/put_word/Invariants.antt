@@ -1,9 +1,7 @@
 -- The bytes that are stored are the front of the word; behind the last comes the byte.
 use Prim.Native.Nat.{◌-◌}
-use native.Mathlib.Omega.{arith}
-use borrow.Author.Rules.{rules}
 use lib.ListN.{length}
-use Rattle.text.specs.PutLaws.{Copied, none_copied, one_copied, word_copied, same-room, ended-length}
+use Rattle.text.specs.PutLaws.{Copied}
 use Rattle.text.proofs.fields.put_word.Given as goal
 
 abbrev pub invariant-loop-i : goal.invariant-loop-i

@@ -2,7 +2,6 @@
 use native.Mathlib.Omega.{arith}
 use mir.Facts.{to_z-of_z}
 use Rattle.text.specs.PutLaws.{sign-room, whole_room, places-room, puts_megabits}
-use borrow.Author.Rules.{rules}
 use Rattle.text.proofs.figures.put_megabits.Goals as goal
 
 pub put_sign-whole-requires : goal.put_sign-whole-requires

@@ -1,8 +1,5 @@
 -- The bytes from the one reached on are left to be stored.
-use Prim.Native.Nat.{◌-◌}
-use lib.ListN.{length}
-use borrow.Author.Rules.{rules}
-use Rattle.encoding.specs.StoreLaws.{Copying, none_stored, copied_inside, copied_next, copied_all}
+use Rattle.encoding.specs.StoreLaws.{none_stored, copied_inside, copied_next, copied_all}
 use Rattle.text.specs.FittedLaws.{too_short, stored_ready}
 use Rattle.text.proofs.fills.fill.Goals as goal
 

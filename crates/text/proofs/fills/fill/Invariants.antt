@@ -1,9 +1,7 @@
 -- The bytes from the one reached on are left to be stored.
 use Prim.Native.Nat.{◌-◌}
 use lib.ListN.{length}
-use borrow.Author.Rules.{rules}
-use Rattle.encoding.specs.StoreLaws.{Copying, none_stored, copied_inside, copied_next, copied_all}
-use Rattle.text.specs.FittedLaws.{too_short, stored_ready}
+use Rattle.encoding.specs.StoreLaws.{Copying}
 use Rattle.text.proofs.fills.fill.Given as goal
 
 abbrev pub invariant-loop-i : goal.invariant-loop-i

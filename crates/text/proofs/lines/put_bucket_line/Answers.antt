@@ -1,7 +1,6 @@
 -- The four parts are stored one behind the other.
 use Prim.Native.Nat.{ℕ}
 use mathlib.Core.List.{List}
-use borrow.Author.Rules.{rules}
 use mir.Facts.{to_z-of_z}
 use Rattle.text.specs.Lines.{bucket_fields, newline, space}
 use Rattle.text.specs.Megabits.{megabits}

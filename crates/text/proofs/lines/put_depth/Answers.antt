@@ -1,7 +1,6 @@
 -- The two fields are stored one behind the other.
 use Prim.Native.Nat.{ℕ}
 use mathlib.Core.List.{List}
-use borrow.Author.Rules.{rules}
 use lib.IntN.{pos}
 use Rattle.text.specs.Lines.{depth_word, space}
 use Rattle.text.specs.Megabits.{megabits}

@@ -1,7 +1,6 @@
 -- The two fields are stored one behind the other.
 use Prim.Native.Nat.{ℕ}
 use mathlib.Core.List.{List}
-use borrow.Author.Rules.{rules}
 use Rattle.text.specs.Lines.{newline, space}
 use Rattle.text.specs.Numeral.{ended, numeral}
 use Rattle.text.specs.ChainLaws.{first_of_two, second_of_two, two}

@@ -1,10 +1,9 @@
 -- The four fields are stored one behind the other.
 use Prim.Native.Nat.{ℕ}
 use mathlib.Core.List.{List}
-use borrow.Author.Rules.{rules}
 use Rattle.text.specs.Lines.{newline, plan_word, space}
 use Rattle.text.specs.Numeral.{ended, numeral}
-use Rattle.text.specs.ChainLaws.{first_of_four, second_of_four, third_of_four, fourth_of_four, four}
+use Rattle.text.specs.ChainLaws.{first_of_four, third_of_four, fourth_of_four, four}
 use Rattle.text.proofs.lines.put_plan_line.Goals as goal
 
 pub put_word-counts-requires : goal.put_word-counts-requires

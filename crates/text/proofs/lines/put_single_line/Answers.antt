@@ -1,7 +1,6 @@
 -- The three parts are stored one behind the other.
 use Prim.Native.Nat.{ℕ}
 use mathlib.Core.List.{List}
-use borrow.Author.Rules.{rules}
 use Rattle.text.specs.Lines.{bucket_fields, newline, single_word, space}
 use Rattle.text.specs.Numeral.{ended, numeral}
 use Rattle.text.specs.ChainLaws.{first_of_three, second_of_three, third_of_three, three}

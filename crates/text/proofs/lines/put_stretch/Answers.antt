@@ -1,10 +1,9 @@
 -- The three parts are stored one behind the other.
 use Prim.Native.Nat.{ℕ}
 use mathlib.Core.List.{List}
-use borrow.Author.Rules.{rules}
 use Rattle.text.specs.Lines.{newline, space, stretch_word}
 use Rattle.text.specs.Numeral.{ended, numeral}
-use Rattle.text.specs.ChainLaws.{first_of_three, second_of_three, third_of_three, three}
+use Rattle.text.specs.ChainLaws.{first_of_three, third_of_three, three}
 use Rattle.text.proofs.lines.put_stretch.Goals as goal
 
 pub put_word-second-requires : goal.put_word-second-requires

@@ -1,7 +1,6 @@
 -- The three fields are stored one behind the other.
 use Prim.Native.Nat.{ℕ}
 use mathlib.Core.List.{List}
-use borrow.Author.Rules.{rules}
 use lib.IntN.{pos}
 use mir.Facts.{to_z-of_z}
 use Rattle.text.specs.Lines.{newline, space, trial_word}

@@ -1,7 +1,5 @@
 -- Each division takes a digit off; the last has none above it.
-use native.Mathlib.Omega.{arith}
-use native.Mathlib.Nat.{div-lt_self}
-use Rattle.text.specs.NumeralLaws.{Counting, none_counted, one_counted, all_counted}
+use Rattle.text.specs.NumeralLaws.{Counting}
 use Rattle.text.proofs.numerals.places.Given as goal
 
 abbrev pub invariant-loop-rest : goal.invariant-loop-rest

@@ -1,7 +1,6 @@
 -- The digits are stored from the last to the first; those that are left, stored too, give the whole.
 use native.Mathlib.Omega.{arith}
-use borrow.Author.Rules.{rules}
-use Rattle.text.specs.NumeralLaws.{Spelling, none_spelled, one_spelled, all_spelled}
+use Rattle.text.specs.NumeralLaws.{none_spelled, one_spelled, all_spelled}
 use Rattle.text.proofs.numerals.put_digits.Goals as goal
 
 pub loop-k-init : goal.loop-k-init

@@ -1,7 +1,5 @@
 -- The digits are stored from the last to the first; those that are left, stored too, give the whole.
-use native.Mathlib.Omega.{arith}
-use borrow.Author.Rules.{rules}
-use Rattle.text.specs.NumeralLaws.{Spelling, none_spelled, one_spelled, all_spelled}
+use Rattle.text.specs.NumeralLaws.{Spelling}
 use Rattle.text.proofs.numerals.put_digits.Given as goal
 
 abbrev pub invariant-loop-k : goal.invariant-loop-k

@@ -4,7 +4,6 @@ use native.Mathlib.Omega.{arith}
 use lib.ListN.{length}
 use Rattle.text.specs.Numeral.{numeral}
 use Rattle.text.specs.PutLaws.{ended-length, puts_number}
-use borrow.Author.Rules.{rules}
 use Rattle.text.proofs.numerals.put_number.Goals as goal
 
 pub put_digits-requires : goal.put_digits-requires

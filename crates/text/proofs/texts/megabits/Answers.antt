@@ -7,7 +7,6 @@ use mir.Facts.{to_z-of_z}
 use Rattle.text.specs.Megabits.{megabits}
 use Rattle.text.specs.MegabitsLaws.{figure_short, longest_figure}
 use Rattle.text.specs.FittedLaws.{ready_count, ready_inside, ready_fills}
-use borrow.Author.Rules.{rules}
 use Rattle.text.proofs.texts.megabits.Goals as goal
 
 pub put_megabits-length-requires : goal.put_megabits-length-requires

@@ -7,7 +7,6 @@ use Rattle.terms.specs.Refusals.{number_of}
 use Rattle.text.specs.Lines.{refusal_line}
 use Rattle.text.specs.LineLaws.{refusal_length, refusals_short}
 use Rattle.text.specs.FittedLaws.{too_short, put_fills}
-use borrow.Author.Rules.{rules}
 use Rattle.text.proofs.texts.refusal_line.Goals as goal
 
 pub overflow_add-places : goal.overflow_add-places

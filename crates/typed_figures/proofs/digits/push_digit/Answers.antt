@@ -1,7 +1,6 @@
 -- The number with one more digit is compared with the limit before it is cut to 32 bits.
 use native.Mathlib.Omega.{arith}
 use mathlib.Core.Path.{sym}
-use borrow.Author.Rules.{rules}
 use Rattle.typed_figures.specs.DecimalLaws.{digit_range, push_above, push_within}
 use Rattle.typed_figures.proofs.digits.push_digit.Goals as goal
 

@@ -1,7 +1,6 @@
 -- The factor's own test decides where the figure is q.
 use mathlib.Core.Path.{ap}
 use mathlib.Core.Bool.{Bool, not, ◌||◌}
-use borrow.Author.Rules.{rules}
 use lib.Dec.{eqb}
 use Rattle.typed_figures.proofs.figures.factor_stands.Goals as goal
 
