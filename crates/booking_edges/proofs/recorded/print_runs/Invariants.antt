@@ -1,0 +1,6 @@
+-- A run starts at most as far on as there are entries.
+use Rattle.std.proofs.Common.{◌≤◌}
+use Rattle.booking_edges.proofs.recorded.print_runs.Given as goal
+
+abbrev pub invariant-loop-i : goal.invariant-loop-i
+invariant-loop-i g l = l.start ≤ 516
