@@ -12,24 +12,25 @@ use plan_file::LONGEST_PLAN;
 fn main(rt: HostRuntime) {
     if !has_words(
         &rt,
+        &rt.stderr(),
         1,
-        "use: book < ORDER > PLAN (an order file on standard input)\n",
-        "book: write",
+        b"use: book < ORDER > PLAN (an order file on standard input)\n",
+        b"book: write",
     ) {
         return;
     }
     let mut order = [0u8; ORDER_ROOM];
-    let length = read_all(&rt, &mut order, "book: standard input");
+    let length = read_all(&rt, &rt.stderr(), &mut order, b"book: standard input");
     book_order(&rt, &rt.stderr(), &order[..length]);
 }
 
-fn book_order(rt: &(impl Print + Eprint), errors: &impl Print, order: &[u8]) {
+fn book_order(rt: &impl Print, errors: &impl Print, order: &[u8]) {
     let mut bytes = [0u8; LONGEST_PLAN];
     let answer = book_file(order, &mut bytes);
     match answer {
         BookingAnswer::Booked(booked) => {
-            put_front(rt, rt, &bytes, booked.length, "book: write");
+            put_front(rt, errors, &bytes, booked.length, b"book: write");
         }
-        BookingAnswer::Refused(why) => refuse(rt, errors, why, "book: write"),
+        BookingAnswer::Refused(why) => refuse(errors, errors, why, b"book: write"),
     }
 }

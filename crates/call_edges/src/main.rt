@@ -13,7 +13,7 @@ use console::{INPUT_ROOM, read_all};
 
 fn main(rt: HostRuntime) {
     let mut input = [0u8; INPUT_ROOM];
-    let length = read_all(&rt, &mut input, "call_edges: standard input");
+    let length = read_all(&rt, &rt.stderr(), &mut input, b"call_edges: standard input");
     each_case(&rt, &input[..length]);
     million::offers_until_full(&rt);
     million::runs(&rt);

@@ -13,15 +13,16 @@ const FILES_ROOM: usize = LONGEST_ORDER + LONGEST_PLAN + 1;
 fn main(rt: HostRuntime) {
     if !has_words(
         &rt,
+        &rt.stderr(),
         1,
-        "use: check_plan < FILES (an order file and, behind it, a plan file on standard input)\n",
-        "check_plan: write",
+        b"use: check_plan < FILES (an order file and, behind it, a plan file on standard input)\n",
+        b"check_plan: write",
     ) {
         return;
     }
     let mut files = [0u8; FILES_ROOM];
-    let length = read_all(&rt, &mut files, "check_plan: standard input");
+    let length = read_all(&rt, &rt.stderr(), &mut files, b"check_plan: standard input");
     let mut text = [0u8; LONGEST_VERDICT];
     let answer = check_files(&files[..length], &mut text);
-    print(&rt, answer, &text, "check_plan: write");
+    print(&rt, &rt.stderr(), answer, &text, b"check_plan: write");
 }

@@ -1,22 +1,27 @@
 // A program's arguments: how many there are, whether one is a certain word, and the number that one stands
 // for. Public only for the programs.
 use crate::put;
-use crate::reasons::say;
 use std::env::FillError;
 use std::rt::Env;
 use typed_figures::{NumberAnswer, number_of};
 
 // Whether the program was started with that many words, its own name among them. Where it was not,
 // its use goes to standard error, or to standard output where --help is the only argument.
-pub fn has_words(rt: &(impl Env + Print + Eprint), count: usize, usage: &str, what: &str) -> bool {
-    if is_started_with(rt, 2) & is_word(rt, 1, "--help") {
-        put(rt, rt, usage.as_bytes(), what);
+pub fn has_words(
+    rt: &(impl Env + Print),
+    errors: &impl Print,
+    count: usize,
+    usage: &[u8],
+    what: &[u8],
+) -> bool {
+    if is_started_with(rt, 2) & is_word(rt, 1, b"--help") {
+        put(rt, errors, usage, what);
         return false;
     }
     if is_started_with(rt, count) {
         return true;
     }
-    complain(rt, usage, what);
+    put(errors, errors, usage, what);
     false
 }
 
@@ -33,31 +38,25 @@ fn is_there(rt: &impl Env, index: usize) -> bool {
 const WORD_ROOM: usize = 64;
 
 // Whether an argument is that word.
-pub fn is_word(rt: &impl Env, index: usize, word: &str) -> bool {
+pub fn is_word(rt: &impl Env, index: usize, word: &[u8]) -> bool {
     let mut room = [0u8; WORD_ROOM];
     let length = rt.arg(index, &mut room).unwrap_or(0);
-    &room[..length] == word.as_bytes()
+    &room[..length] == word
 }
 
 // The number that an argument stands for; where it is none, the fault goes to standard error.
 pub fn number_argument(
-    rt: &(impl Env + Eprint),
+    rt: &impl Env,
+    errors: &impl Print,
     index: usize,
-    fault: &str,
-    what: &str,
+    fault: &[u8],
+    what: &[u8],
 ) -> NumberAnswer {
     let mut room = [0u8; WORD_ROOM];
     let length = rt.arg(index, &mut room).unwrap_or(0);
     let NumberAnswer::Number(number) = number_of(&room[..length]) else {
-        complain(rt, fault, what);
+        put(errors, errors, fault, what);
         return NumberAnswer::NoNumber;
     };
     NumberAnswer::Number(number)
-}
-
-// Writes a line to standard error, and says so where that fails.
-fn complain(rt: &impl Eprint, line: &str, what: &str) {
-    if let Err(error) = rt.eprint(line) {
-        say(rt, what, &error);
-    }
 }

@@ -26,7 +26,7 @@ pub const ORDER_ROOM: usize = LONGEST_ORDER + 1;
 // Reads all of standard input, in whatever pieces it comes, or as much of it as there is room for.
 // Where a read fails, it says so and nothing counts as read: a part of an order could pass for another
 // order.
-pub fn read_all(rt: &(impl Input + Eprint), room: &mut [u8], what: &str) -> usize
+pub fn read_all(rt: &impl Input, errors: &impl Print, room: &mut [u8], what: &[u8]) -> usize
     ensures { IsPrefixLen result room.new }
 {
     let mut from = rt.reader();
@@ -36,7 +36,7 @@ pub fn read_all(rt: &(impl Input + Eprint), room: &mut [u8], what: &str) -> usiz
             Ok(0) => return done,
             Ok(more) => done += more,
             Err(error) => {
-                say(rt, what, &error);
+                say(errors, what, &error);
                 return 0;
             }
         }
@@ -45,32 +45,32 @@ pub fn read_all(rt: &(impl Input + Eprint), room: &mut [u8], what: &str) -> usiz
 }
 
 // Writes the text that a call has filled to standard output, or the refusal line.
-pub fn print(rt: &(impl Print + Eprint), answer: FillAnswer, text: &[u8], what: &str) {
+pub fn print(to: &impl Print, errors: &impl Print, answer: FillAnswer, text: &[u8], what: &[u8]) {
     match answer {
-        FillAnswer::Filled(length) => put_front(rt, rt, text, length, what),
-        FillAnswer::Refused(why) => refuse(rt, rt, why, what),
+        FillAnswer::Filled(length) => put_front(to, errors, text, length, what),
+        FillAnswer::Refused(why) => refuse(to, errors, why, what),
     }
 }
 
 // Writes the front of some bytes, as long as a call has answered.
-pub fn put_front(rt: &impl Eprint, to: &impl Print, bytes: &[u8], length: usize, what: &str) {
+pub fn put_front(to: &impl Print, errors: &impl Print, bytes: &[u8], length: usize, what: &[u8]) {
     if length <= bytes.len() {
-        put(rt, to, &bytes[..length], what);
+        put(to, errors, &bytes[..length], what);
     }
 }
 
 // Writes the refusal line.
-pub fn refuse(rt: &impl Eprint, to: &impl Print, why: Refusal, what: &str) {
+pub fn refuse(to: &impl Print, errors: &impl Print, why: Refusal, what: &[u8]) {
     let mut line = [0u8; LONGEST_REFUSAL];
     let FillAnswer::Filled(length) = refusal_line(why, &mut line) else {
         return;
     };
-    put_front(rt, to, &line, length, what);
+    put_front(to, errors, &line, length, what);
 }
 
 // Writes all of some bytes, and says so where that fails.
-pub fn put(rt: &impl Eprint, to: &impl Print, bytes: &[u8], what: &str) {
+pub fn put(to: &impl Print, errors: &impl Print, bytes: &[u8], what: &[u8]) {
     if let Err(error) = to.write_all(bytes) {
-        say(rt, what, &error);
+        say(errors, what, &error);
     }
 }

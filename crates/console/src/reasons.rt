@@ -7,11 +7,12 @@ use std::io;
 const REASON_ROOM: usize = 320;
 
 // Says what failed, and the system's reason. That this may fail too is nothing that one could say.
-pub fn say(rt: &impl Eprint, what: &str, error: &io::Error) {
+pub fn say(errors: &impl Print, what: &[u8], error: &io::Error) {
     let mut text = ArrayString::<REASON_ROOM>::new();
     let _ = write!(text, "{error}");
     let reason = reason_of(text.as_str());
-    let _ = eprintln!(rt; "{what}: {reason}");
+    let _ = errors.write_all(what);
+    let _ = println!(errors; ": {reason}");
 }
 
 // An error's text without the number that stands behind it.

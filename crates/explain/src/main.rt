@@ -10,27 +10,29 @@ use typed_figures::NumberAnswer;
 fn main(rt: HostRuntime) {
     if !has_words(
         &rt,
+        &rt.stderr(),
         2,
-        "use: explain RATE < ORDER (kilobits; an order file on standard input)\n",
-        "explain: write",
+        b"use: explain RATE < ORDER (kilobits; an order file on standard input)\n",
+        b"explain: write",
     ) {
         return;
     }
     let NumberAnswer::Number(rate) = number_argument(
         &rt,
+        &rt.stderr(),
         1,
-        "explain: RATE is a whole number of kilobits, 0 to 4294967295 (refused 5)\n",
-        "explain: write",
+        b"explain: RATE is a whole number of kilobits, 0 to 4294967295 (refused 5)\n",
+        b"explain: write",
     ) else {
         return;
     };
-    print_explained(&rt, Rate(rate));
+    print_explained(&rt, &rt.stderr(), Rate(rate));
 }
 
-fn print_explained(rt: &(impl Input + Print + Eprint), rate: Rate) {
+fn print_explained(rt: &(impl Input + Print), errors: &impl Print, rate: Rate) {
     let mut order = [0u8; ORDER_ROOM];
-    let length = read_all(rt, &mut order, "explain: standard input");
+    let length = read_all(rt, errors, &mut order, b"explain: standard input");
     let mut text = [0u8; LONGEST_EXPLAINED];
     let answer = explain_line(&order[..length], rate, &mut text);
-    print(rt, answer, &text, "explain: write");
+    print(rt, errors, answer, &text, b"explain: write");
 }

@@ -13,7 +13,7 @@ use samples::lent_records::{ENTRIES, record_of};
 
 fn main(rt: HostRuntime) {
     let mut input = [0u8; INPUT_ROOM];
-    let length = read_all(&rt, &mut input, "figures: standard input");
+    let length = read_all(&rt, &rt.stderr(), &mut input, b"figures: standard input");
     each_case(&rt, &input[..length]);
     row_j(&rt);
     row_l(&rt);

@@ -10,33 +10,35 @@ use terms::Rate;
 use typed_figures::NumberAnswer;
 
 fn main(rt: HostRuntime) {
-    let from_end = is_word(&rt, 2, "from-end");
+    let from_end = is_word(&rt, 2, b"from-end");
     let words = if from_end { 3 } else { 2 };
     if !has_words(
         &rt,
+        &rt.stderr(),
         words,
-        "use: least_depth RATE [from-end] < ORDER (kilobits; an order file on standard input)\n",
-        "least_depth: write",
+        b"use: least_depth RATE [from-end] < ORDER (kilobits; an order file on standard input)\n",
+        b"least_depth: write",
     ) {
         return;
     }
     let NumberAnswer::Number(rate) = number_argument(
         &rt,
+        &rt.stderr(),
         1,
-        "least_depth: RATE is a whole number of kilobits, 0 to 4294967295 (refused 5)\n",
-        "least_depth: write",
+        b"least_depth: RATE is a whole number of kilobits, 0 to 4294967295 (refused 5)\n",
+        b"least_depth: write",
     ) else {
         return;
     };
-    print_depth(&rt, Rate(rate), from_end);
+    print_depth(&rt, &rt.stderr(), Rate(rate), from_end);
 }
 
-fn print_depth(rt: &(impl Input + Print + Eprint), rate: Rate, from_end: bool) {
+fn print_depth(rt: &(impl Input + Print), errors: &impl Print, rate: Rate, from_end: bool) {
     let mut order = [0u8; ORDER_ROOM];
-    let length = read_all(rt, &mut order, "least_depth: standard input");
+    let length = read_all(rt, errors, &mut order, b"least_depth: standard input");
     let mut text = [0u8; LONGEST_DEPTH];
     let answer = line_of(&order[..length], rate, from_end, &mut text);
-    print(rt, answer, &text, "least_depth: write");
+    print(rt, errors, answer, &text, b"least_depth: write");
 }
 
 // The line of the depth, the order's demands being last period first or first to last.

@@ -12,26 +12,27 @@ use order_text::{TextAnswer, order_of_text};
 fn main(rt: HostRuntime) {
     if !has_words(
         &rt,
+        &rt.stderr(),
         1,
-        "use: order < TEXT > ORDER (figures as decimal text on standard input)\n",
-        "order: write",
+        b"use: order < TEXT > ORDER (figures as decimal text on standard input)\n",
+        b"order: write",
     ) {
         return;
     }
     let mut text = [0u8; INPUT_ROOM];
-    let length = read_all(&rt, &mut text, "order: standard input");
+    let length = read_all(&rt, &rt.stderr(), &mut text, b"order: standard input");
     // a buffer that is full may leave text behind
     if length == text.len() {
         faults::long_text(&rt);
         return;
     }
-    write_order(&rt, &text[..length]);
+    write_order(&rt, &rt.stderr(), &text[..length]);
 }
 
-fn write_order(rt: &(impl Print + Eprint), text: &[u8]) {
+fn write_order(rt: &(impl Print + Eprint), errors: &impl Print, text: &[u8]) {
     let mut file = [0; LONGEST_ORDER];
     match order_of_text(text, &mut file) {
-        TextAnswer::Written(length) => put_front(rt, rt, &file, length, "order: write"),
+        TextAnswer::Written(length) => put_front(rt, errors, &file, length, b"order: write"),
         TextAnswer::Faulty(fault) => faults::say(rt, fault, text),
         // never: the bytes are as many as the longest file has
         TextAnswer::Refused(refusal) => faults::refused(rt, refusal),

@@ -14,7 +14,7 @@ use console::{INPUT_ROOM, read_all};
 fn main(rt: HostRuntime) {
     printed::case(&rt);
     let mut input = [0u8; INPUT_ROOM];
-    let length = read_all(&rt, &mut input, "plan_edges: standard input");
+    let length = read_all(&rt, &rt.stderr(), &mut input, b"plan_edges: standard input");
     each_case(&rt, &input[..length]);
     longest::edges(&rt);
 }

@@ -7,15 +7,16 @@ use sheets::LONGEST_SHEET;
 fn main(rt: HostRuntime) {
     if !has_words(
         &rt,
+        &rt.stderr(),
         1,
-        "use: sheet < ORDER (an order file on standard input)\n",
-        "sheet: write",
+        b"use: sheet < ORDER (an order file on standard input)\n",
+        b"sheet: write",
     ) {
         return;
     }
     let mut order = [0u8; ORDER_ROOM];
-    let length = read_all(&rt, &mut order, "sheet: standard input");
+    let length = read_all(&rt, &rt.stderr(), &mut order, b"sheet: standard input");
     let mut text = [0u8; LONGEST_SHEET];
     let answer = sheets::sheet(&order[..length], &mut text);
-    print(&rt, answer, &text, "sheet: write");
+    print(&rt, &rt.stderr(), answer, &text, b"sheet: write");
 }

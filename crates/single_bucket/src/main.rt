@@ -7,15 +7,21 @@ use services::{LONGEST_SINGLE, single_line};
 fn main(rt: HostRuntime) {
     if !has_words(
         &rt,
+        &rt.stderr(),
         1,
-        "use: single_bucket < ORDER (an order file on standard input)\n",
-        "single_bucket: write",
+        b"use: single_bucket < ORDER (an order file on standard input)\n",
+        b"single_bucket: write",
     ) {
         return;
     }
     let mut order = [0u8; ORDER_ROOM];
-    let length = read_all(&rt, &mut order, "single_bucket: standard input");
+    let length = read_all(
+        &rt,
+        &rt.stderr(),
+        &mut order,
+        b"single_bucket: standard input",
+    );
     let mut text = [0u8; LONGEST_SINGLE];
     let answer = single_line(&order[..length], &mut text);
-    print(&rt, answer, &text, "single_bucket: write");
+    print(&rt, &rt.stderr(), answer, &text, b"single_bucket: write");
 }

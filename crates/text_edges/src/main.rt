@@ -16,7 +16,7 @@ use samples::file_bytes::LENT_BYTES;
 
 fn main(rt: HostRuntime) {
     let mut input = [0u8; INPUT_ROOM];
-    let length = read_all(&rt, &mut input, "text_edges: standard input");
+    let length = read_all(&rt, &rt.stderr(), &mut input, b"text_edges: standard input");
     each_case(&rt, &input[..length]);
 }
 

@@ -10,25 +10,28 @@ use typed_figures::NumberAnswer;
 fn main(rt: HostRuntime) {
     if !has_words(
         &rt,
+        &rt.stderr(),
         3,
-        "use: trial RATE DEPTH < ORDER (kilobits; an order file on standard input)\n",
-        "trial: write",
+        b"use: trial RATE DEPTH < ORDER (kilobits; an order file on standard input)\n",
+        b"trial: write",
     ) {
         return;
     }
     let NumberAnswer::Number(rate) = number_argument(
         &rt,
+        &rt.stderr(),
         1,
-        "trial: RATE is a whole number of kilobits, 0 to 4294967295 (refused 5)\n",
-        "trial: write",
+        b"trial: RATE is a whole number of kilobits, 0 to 4294967295 (refused 5)\n",
+        b"trial: write",
     ) else {
         return;
     };
     let NumberAnswer::Number(depth) = number_argument(
         &rt,
+        &rt.stderr(),
         2,
-        "trial: DEPTH is a whole number of kilobits, 0 to 4294967295 (refused 5)\n",
-        "trial: write",
+        b"trial: DEPTH is a whole number of kilobits, 0 to 4294967295 (refused 5)\n",
+        b"trial: write",
     ) else {
         return;
     };
@@ -36,13 +39,13 @@ fn main(rt: HostRuntime) {
         rate: Rate(rate),
         depth: Depth(depth),
     };
-    print_trial(&rt, bucket);
+    print_trial(&rt, &rt.stderr(), bucket);
 }
 
-fn print_trial(rt: &(impl Input + Print + Eprint), bucket: Bucket) {
+fn print_trial(rt: &(impl Input + Print), errors: &impl Print, bucket: Bucket) {
     let mut order = [0u8; ORDER_ROOM];
-    let length = read_all(rt, &mut order, "trial: standard input");
+    let length = read_all(rt, errors, &mut order, b"trial: standard input");
     let mut text = [0u8; LONGEST_TRIAL];
     let answer = trial_line(&order[..length], bucket, &mut text);
-    print(rt, answer, &text, "trial: write");
+    print(rt, errors, answer, &text, b"trial: write");
 }
