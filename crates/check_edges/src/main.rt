@@ -11,7 +11,12 @@ use console::{INPUT_ROOM, read_all};
 
 fn main(rt: HostRuntime) {
     let mut input = [0u8; INPUT_ROOM];
-    let length = read_all(&rt, &rt.stderr(), &mut input, b"check_edges: standard input");
+    let length = read_all(
+        &rt,
+        &rt.stderr(),
+        &mut input,
+        b"check_edges: standard input",
+    );
     each_case(&rt, &input[..length]);
 }
 

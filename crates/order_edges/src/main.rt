@@ -16,7 +16,12 @@ use console::{INPUT_ROOM, read_all};
 fn main(rt: HostRuntime) {
     printed::case(&rt);
     let mut input = [0u8; INPUT_ROOM];
-    let length = read_all(&rt, &rt.stderr(), &mut input, b"order_edges: standard input");
+    let length = read_all(
+        &rt,
+        &rt.stderr(),
+        &mut input,
+        b"order_edges: standard input",
+    );
     each_case(&rt, &input[..length]);
     longest::edges(&rt);
     longest::megabyte(&rt);
