@@ -1,19 +1,21 @@
 // An order booked with lists that are as long as any order needs. Public only for this program, which
 // shows what is required.
 ghost use Rattle.std.specs.Prelude.{◌≤◌, length};
+ghost use Rattle.terms.specs.Refusals.{says};
 ghost use Rattle.plan_file.specs.Plan.{longest_plan};
-ghost use Rattle.recording.specs.Recording.{booking_says};
 ghost use Rattle.book.specs.Filed.{BooksFile};
 
-use booking::{BookingAnswer, book};
+use terms::Refusal;
+use recording::Booking;
+use booking::book;
 use record_list::arrays::blank_records;
 use terms::limits::TRACE_LIMIT;
 
 // Books an order: the plan's file fills the front of the bytes, which have room for the longest; or a
 // refusal, and the bytes are as they were.
-pub fn book_file(order: &[u8], bytes: &mut [u8]) -> BookingAnswer
+pub fn book_file(order: &[u8], bytes: &mut [u8]) -> Result<Booking, Refusal>
     requires { longest_plan ≤ length bytes.old }
-    ensures { BooksFile order.now bytes.old bytes.new (booking_says result) }
+    ensures { BooksFile order.now bytes.old bytes.new (says result) }
 {
     let mut demands = blank_demands();
     let mut plan = blank_records();

@@ -4,7 +4,6 @@
 
 mod files;
 
-use booking::BookingAnswer;
 use console::{ORDER_ROOM, has_words, put_front, read_all, refuse};
 use files::book_file;
 use plan_file::LONGEST_PLAN;
@@ -28,9 +27,9 @@ fn book_order(rt: &impl Print, errors: &impl Print, order: &[u8]) {
     let mut bytes = [0u8; LONGEST_PLAN];
     let answer = book_file(order, &mut bytes);
     match answer {
-        BookingAnswer::Booked(booked) => {
+        Ok(booked) => {
             put_front(rt, errors, &bytes, booked.length, b"book: write");
         }
-        BookingAnswer::Refused(why) => refuse(errors, errors, why, b"book: write"),
+        Err(why) => refuse(errors, errors, why, b"book: write"),
     }
 }

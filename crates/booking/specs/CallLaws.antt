@@ -8,18 +8,17 @@ use Rattle.terms.specs.AnswerLaws.{then_figures, then_refused}
 use Rattle.terms.specs.Lent.{filled}
 use Rattle.terms.specs.Limits.{trace_limit}
 use Rattle.terms.specs.Records.{Cutting}
-use Rattle.terms.specs.Refusals.{number_of}
+use Rattle.terms.specs.Refusals.{number_of, says}
 use Rattle.record_list.specs.Held.{held}
 use Rattle.order_file.specs.Ordered.{spread_from}
 use Rattle.plan_file.specs.declared.answers.PlanFigures.{PlanFigures}
 use Rattle.plan_file.specs.Plan.{plan_file}
 use Rattle.planning.specs.declared.planned_orders.PlannedOrder.{PlannedOrder}
 use Rattle.planning.specs.declared.planned_orders.PlannedRecords.{PlannedRecords}
-use Rattle.planning.specs.Planning.{Planned, planned, planned_says, cutting_of}
+use Rattle.planning.specs.Planning.{Planned, planned, cutting_of}
 use Rattle.planning.specs.CallLaws.{PlansOrder, zeros, plan-refused, the_plan, plan-found, plan_figures_lem, trace-is, records_are}
-use Rattle.recording.specs.declared.recorded.BookingAnswer.TheVariants.{Refused}
 use Rattle.recording.specs.declared.recorded.BookingRecords.{BookingRecords}
-use Rattle.recording.specs.Recording.{Recording, recording, written, booking_of, booking_says}
+use Rattle.recording.specs.Recording.{Recording, recording, written, booking_of}
 use Rattle.recording.specs.RecordingLaws.{RecordsPlan}
 use Rattle.booking.specs.declared.calls.BookedRecords.{BookedRecords}
 use Rattle.booking.specs.Booking.{Lent, Steps, plan_figures, answer_of}
@@ -61,7 +60,7 @@ module _ (z : Sizes) where
 -- What the calls answer and what they leave in the bytes; the demands of an order that is read, the records found and
 -- those read back.
 pub record Called (bs : List ℕ) (z : Sizes) (bytes bytes' : List ℕ) (r : BookedRecords) : Type 0 where
-  pub answers : booking_says r.answer ≡ on_figures answer_of (booked_in z bs)
+  pub answers : says r.answer ≡ on_figures answer_of (booked_in z bs)
   pub spreads : r.demands ≡ filled (spread_from trace_limit bs) zeros
   pub plans : r.plan ≡ held (cutting_of (planned_in z bs))
   pub writes : bytes' ≡ filled (on_figures (λ s. s.recording.file) (booked_in z bs)) bytes
@@ -71,7 +70,7 @@ module _ (bs : List ℕ) (entries room : ℕ) (bytes : List ℕ) (space : ℕ) (
   abbrev z : Sizes
   z = sizes entries room (length bytes) space
 
-  pub planning-refused : (why : Refusal) → planned_says p.answer ≡ refused (number_of why)
+  pub planning-refused : (why : Refusal) → says p.answer ≡ refused (number_of why)
       → Called bs z bytes bytes (record { answer = Refused why; demands = p.demands; plan = p.records; back = p.records })
   planning-refused why f =
       let e = plan-refused bs entries room p k (number_of why) f in
@@ -84,7 +83,7 @@ module _ (bs : List ℕ) (entries room : ℕ) (bytes : List ℕ) (space : ℕ) (
         reads = k.holds ∙ ap (λ (a : Answer Planned). held (cutting_of a)) e ∙ ap (λ (a : Answer Steps). held (on_figures (λ s. s.recording.plan.buckets) a)) none;
       }
 
-  module _ (y : PlannedOrder) (f : planned_says p.answer ≡ figures y) where
+  module _ (y : PlannedOrder) (f : says p.answer ≡ figures y) where
     abbrev x : Planned
     x = the_plan bs entries room p k y f
 

@@ -8,6 +8,7 @@ use Rattle.terms.specs.AnswerLaws.{on_figures_lem, on_refused}
 use Rattle.terms.specs.Lent.{filled}
 use Rattle.terms.specs.Limits.{trace_limit}
 use Rattle.terms.specs.Records.{Cutting}
+use Rattle.terms.specs.Refusals.{says}
 use Rattle.encoding.specs.NumberLaws.{Bytes}
 use Rattle.order_file.specs.Order.{trace_part}
 use Rattle.order_file.specs.OrderRules.{spread_rules}
@@ -19,7 +20,6 @@ use Rattle.planning.specs.Planning.{Planned, cutting_of}
 use Rattle.planning.specs.PlannedLaws.{IsPlanned, is-planned}
 use Rattle.planning.specs.CallLaws.{spread-front, spread-inside}
 use Rattle.recording.specs.declared.recorded.Booking.{Booking}
-use Rattle.recording.specs.Recording.{booking_says}
 use Rattle.booking.specs.declared.calls.BookedRecords.{BookedRecords}
 use Rattle.booking.specs.Booking.{Lent, Steps, lent, answer_of, lent_after}
 use Rattle.booking.specs.CallLaws.{Sizes, Called, sizes_of, booked_in}
@@ -36,7 +36,7 @@ pub record Books (bs : List ℕ) (z : Sizes) (demands bytes demands' bytes' : Li
 -- ---- The demands, stored once the order is booked
 
 module _ (bs : List ℕ) (h : Bytes bs) (z : Sizes) (demands : List ℕ) (size : length demands ≡ z.demands) (bytes bytes' : List ℕ) (r : BookedRecords) (c : Called bs z bytes bytes' r) where
-  module _ (x : Booking) (e : booking_says r.answer ≡ figures x) where
+  module _ (x : Booking) (e : says r.answer ≡ figures x) where
     given : (s : Steps) × (booked_in z bs ≡ figures s) × (answer_of s ≡ x)
     given = on_figures_lem answer_of (booked_in z bs) (sym c.answers ∙ e)
 
@@ -71,7 +71,7 @@ module _ (bs : List ℕ) (h : Bytes bs) (z : Sizes) (demands : List ℕ) (size :
               ∙ ap (λ (a : Answer Steps). filled (on_figures (λ s. s.planning.demands) a) demands) (sym given.1);
         }
 
-  pub order-refused : (n : ℕ) → booking_says r.answer ≡ refused n → Books bs z demands bytes demands bytes' r
+  pub order-refused : (n : ℕ) → says r.answer ≡ refused n → Books bs z demands bytes demands bytes' r
   order-refused n e =
       let none = on_refused answer_of (booked_in z bs) (sym c.answers ∙ e) in
       record { each_byte = h; called = c; stores = ap (λ (a : Answer Steps). filled (on_figures (λ s. s.planning.demands) a) demands) (sym none) }
@@ -82,7 +82,7 @@ lent_by : {a a' : List ℕ} {b b' : Cutting} {c c' : List ℕ} {d d' : Cutting} 
 lent_by e f g h = rw (e, f, g, h)
 
 module _ (bs : List ℕ) (old : Lent) (demands bytes : List ℕ) (r : BookedRecords) (b : Books bs (sizes_of old) old.demands old.bytes demands bytes r)
-    (n : ℕ) (e : n ≡ counted (λ x. x.plan.buckets) (booking_says r.answer)) where
+    (n : ℕ) (e : n ≡ counted (λ x. x.plan.buckets) (says r.answer)) where
   abbrev z : Sizes
   z = sizes_of old
 
@@ -127,8 +127,8 @@ module _ (bs : List ℕ) (old : Lent) (demands bytes : List ℕ) (r : BookedReco
 
   -- So booking keeps the claim on the lent records.
   pub records-claim : (plan back : Cutting) → plan ≡ filled (figures (take n r.plan)) old.plan → back ≡ filled (figures (take n r.back)) old.back
-      → Claim bs old (lent demands plan bytes back) (booking_says r.answer)
+      → Claim bs old (lent demands plan bytes back) (says r.answer)
   records-claim plan back p q =
       let same = booked-sizes old bs in
-      claim-holds bs b.each_byte old (lent demands plan bytes back) (booking_says r.answer) (b.called.answers ∙ ap (on_figures answer_of) (sym same))
+      claim-holds bs b.each_byte old (lent demands plan bytes back) (says r.answer) (b.called.answers ∙ ap (on_figures answer_of) (sym same))
       (lent_by b.stores (p ∙ plan-stored old.plan) b.called.writes (q ∙ back-stored old.back) ∙ ap (λ (a : Answer Steps). lent_after a old) (sym same))

@@ -1,14 +1,14 @@
 // The call that planners use: from an order file to a recorded plan.
 ghost use Rattle.std.specs.Prelude.{◌≡◌};
+ghost use Rattle.terms.specs.Refusals.{says};
 ghost use Rattle.record_list.specs.Held.{counted};
-ghost use Rattle.recording.specs.Recording.{booking_says};
 ghost use Rattle.booking.specs.Booking.{lent};
 ghost use Rattle.booking.specs.Claim.{Claim};
 
+use recording::Booking;
 use crate::records::book_records;
 use record_list::copies::store_records;
-use recording::BookingAnswer;
-use terms::BucketRecord;
+use terms::{BucketRecord, Refusal};
 
 // Books an order: reads it, spreads its trace into the demands, plans the series into the first list of
 // records, writes the plan into the bytes, reads the front of these back into the second list, and
@@ -21,11 +21,11 @@ pub fn book(
     plan: &mut [BucketRecord],
     bytes: &mut [u8],
     back: &mut [BucketRecord],
-) -> BookingAnswer
+) -> Result<Booking, Refusal>
     ensures { Claim order.now
         (lent demands.old plan.old bytes.old back.old)
         (lent demands.new plan.new bytes.new back.new)
-        (booking_says result) }
+        (says result) }
 {
     let booked = book_records(order, demands, plan.len(), bytes, back.len());
     let count = buckets_of(booked.answer);
@@ -35,11 +35,11 @@ pub fn book(
 }
 
 // The number of buckets; none on a refusal.
-fn buckets_of(answer: BookingAnswer) -> usize
-    ensures { result ≡ counted (λ x. x.plan.buckets) (booking_says answer) }
+fn buckets_of(answer: Result<Booking, Refusal>) -> usize
+    ensures { result ≡ counted (λ x. x.plan.buckets) (says answer) }
 {
     match answer {
-        BookingAnswer::Booked(x) => x.plan.buckets as usize,
-        BookingAnswer::Refused(_) => 0,
+        Ok(x) => x.plan.buckets as usize,
+        Err(_) => 0,
     }
 }

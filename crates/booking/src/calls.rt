@@ -2,18 +2,18 @@
 ghost use Rattle.std.specs.Prelude.{length};
 ghost use Rattle.booking.specs.CallLaws.{Called, sizes};
 
+use recording::Booking;
 use plan_file::PlanFigures;
-use planning::planned_orders::{PlannedAnswer, plan_order};
-use recording::BookingAnswer;
+use planning::planned_orders::plan_order;
 use recording::recorded::record_plan;
-use terms::BucketRecord;
+use terms::{BucketRecord, Refusal};
 use terms::limits::TRACE_LIMIT;
 
 // The answer with the demands of an order that is read, the records of the plan found and those read
 // back.
 #[derive(Clone, Copy)]
 pub struct BookedRecords {
-    pub answer: BookingAnswer,
+    pub answer: Result<Booking, Refusal>,
     pub demands: [u16; TRACE_LIMIT],
     pub plan: [BucketRecord; TRACE_LIMIT],
     pub back: [BucketRecord; TRACE_LIMIT],
@@ -36,10 +36,10 @@ pub fn make_calls(
     let demands = planned.demands;
     let plan = planned.records;
     let found = match answer {
-        PlannedAnswer::Found(x) => x,
-        PlannedAnswer::Refused(why) => {
+        Ok(x) => x,
+        Err(why) => {
             return BookedRecords {
-                answer: BookingAnswer::Refused(why),
+                answer: Err(why),
                 demands,
                 plan,
                 back: plan,

@@ -7,4 +7,4 @@ mod calls;
 mod records;
 
 pub use bookings::book;
-pub use recording::{Booking, BookingAnswer, MeterTotals};
+pub use recording::{Booking, MeterTotals};

@@ -6,7 +6,6 @@ ghost use Rattle.booking.specs.RecordLaws.{Books};
 
 use crate::calls::{BookedRecords, make_calls};
 use order_file::spreads::store_demands;
-use recording::BookingAnswer;
 
 // The booking call for lists of `room` and of `space` records. The demands are stored once the order is
 // booked.
@@ -22,7 +21,7 @@ pub fn book_records(
 {
     let booked = make_calls(order, demands.len(), room, bytes, space);
     let answer = booked.answer;
-    let BookingAnswer::Booked(x) = answer else {
+    let Ok(x) = answer else {
         return booked;
     };
     let periods = x.plan.periods as usize;

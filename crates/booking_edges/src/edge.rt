@@ -1,11 +1,12 @@
 // One booking: its order, what it is lent, and the answer.
+use terms::Refusal;
 use crate::recorded::{print_runs, read_again};
 use crate::rooms::{Rooms, print_rooms, rooms_of};
-use booking::{Booking, BookingAnswer, MeterTotals};
+use booking::{Booking, MeterTotals};
 use cases::{DEMANDS, demands, field, figure, file_of, tariff_of, trace};
 use list_calls::book_on;
 use order_file::write_order;
-use plan_file::{PlanAnswer, PlanFigures};
+use plan_file::PlanFigures;
 use samples::demands::{LENT_DEMAND, are_lent, lent_demands};
 use samples::file_bytes::{LENT, LENT_BYTES, front, is_lent, lent_front};
 use samples::lent_records::{ENTRIES, are_kept, filled};
@@ -70,11 +71,11 @@ fn book_in(rt: &impl Print, order: &[u8], rooms: Rooms) {
 }
 
 // The plan's figures, the file's length and the totals of the meters, or the refusal.
-fn print_answer(rt: &impl Print, answer: BookingAnswer) {
+fn print_answer(rt: &impl Print, answer: Result<Booking, Refusal>) {
     match answer {
-        BookingAnswer::Booked(x) => {
+        Ok(x) => {
             let plan = x.plan;
-            report::plan(rt, PlanAnswer::Read(plan));
+            report::plan(rt, Ok(plan));
             report::figure(rt, b" length", x.length as u64);
             report::totals(
                 rt,
@@ -84,15 +85,15 @@ fn print_answer(rt: &impl Print, answer: BookingAnswer) {
                 x.meters.held,
             );
         }
-        BookingAnswer::Refused(x) => report::refusal(rt, x),
+        Err(x) => report::refusal(rt, x),
     }
 }
 
 // The booking; all zeros on a refusal.
-fn booking_of(answer: BookingAnswer) -> Booking {
+fn booking_of(answer: Result<Booking, Refusal>) -> Booking {
     match answer {
-        BookingAnswer::Booked(x) => x,
-        BookingAnswer::Refused(_) => Booking {
+        Ok(x) => x,
+        Err(_) => Booking {
             plan: PlanFigures {
                 periods: 0,
                 buckets: 0,

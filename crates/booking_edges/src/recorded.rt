@@ -2,12 +2,12 @@
 ghost use Rattle.std.specs.Prelude.{◌≤◌};
 
 use list_calls::read_on;
-use meter::{MeterAnswer, meter_run};
-use order_file::{OrderAnswer, read_order};
+use meter::{Meter, meter_run};
+use order_file::read_order;
 use samples::demands::part_of;
 use samples::file_bytes::{LENT_BYTES, front};
 use samples::lent_records::{ENTRIES, are_same, at_most, filled};
-use terms::{Bucket, BucketRecord};
+use terms::{Bucket, BucketRecord, Refusal};
 
 // What reading the front of the bytes gives, and whether its records are those in the list.
 pub fn read_again(
@@ -36,7 +36,7 @@ pub fn print_runs(
     demands: &[u16; ENTRIES],
     list: [BucketRecord; ENTRIES],
 ) {
-    let OrderAnswer::Read(x) = read_order(order) else {
+    let Ok(x) = read_order(order) else {
         return;
     };
     let factor = x.tariff.factor;
@@ -67,12 +67,12 @@ fn end_of(start: usize, run: u32) -> usize
     at_most(start + at_most(run as usize, ENTRIES), ENTRIES)
 }
 
-fn print_meter(rt: &impl Print, bucket: Bucket, answer: MeterAnswer) {
+fn print_meter(rt: &impl Print, bucket: Bucket, answer: Result<Meter, Refusal>) {
     report::figure(rt, b": rate", bucket.rate.0 as u64);
     report::figure(rt, b" depth", bucket.depth.0 as u64);
     match answer {
-        MeterAnswer::Opened(m) => report::totals(rt, m.sent, m.over, m.lost, m.held as u64),
-        MeterAnswer::Refused(x) => report::refusal(rt, x),
+        Ok(m) => report::totals(rt, m.sent, m.over, m.lost, m.held as u64),
+        Err(x) => report::refusal(rt, x),
     }
     report::end_line(rt);
 }

@@ -1,7 +1,7 @@
 // Every small bucket, factor and trace of three periods: trial and meter against a plain run.
-use bucket::TrialAnswer;
-use meter::{Meter, MeterAnswer};
-use terms::{Bucket, Depth, Factor, Rate};
+use bucket::TrialFigures;
+use meter::Meter;
+use terms::{Bucket, Depth, Factor, Rate, Refusal};
 
 // Rates 0 to 4, depths 0 to 5, factors 0/2 to 2/2 and demands 0 to 6.
 pub const CASES: u32 = 30_870;
@@ -38,23 +38,23 @@ fn demand(n: u32) -> u16 {
 
 // What the trial discards; no case discards 1,000,000, which stands for a refusal and for a spare
 // whose sign does not say whether anything is discarded.
-fn tried_over(a: TrialAnswer) -> u64 {
+fn tried_over(a: Result<TrialFigures, Refusal>) -> u64 {
     match a {
-        TrialAnswer::Found(t) => {
+        Ok(t) => {
             if (t.spare < 0) == (0 < t.over) {
                 t.over as u64
             } else {
                 1_000_000
             }
         }
-        TrialAnswer::Refused(_) => 1_000_000,
+        Err(_) => 1_000_000,
     }
 }
 
-fn metered_over(a: MeterAnswer, trace: [u16; 3]) -> u64 {
+fn metered_over(a: Result<Meter, Refusal>, trace: [u16; 3]) -> u64 {
     match a {
-        MeterAnswer::Opened(m) => offered(m, trace).over,
-        MeterAnswer::Refused(_) => 1_000_000,
+        Ok(m) => offered(m, trace).over,
+        Err(_) => 1_000_000,
     }
 }
 

@@ -1,11 +1,12 @@
 // The series call against trials of every bucket in every cutting: a small case, its trace and tariff, and
 // whether the call answers and records as the plain search does.
+use terms::Refusal;
+use series::Plan;
 use crate::cutting_records::recorded;
 use crate::cuttings::{Choice, UNPRICED, buckets_of, preferred};
 use list_calls::series_on;
 use samples::lent_records::{are_same, filled};
 use samples::small::{Small, demand, small_tariff, tariff_of};
-use series::SeriesAnswer;
 
 // One to four periods with demands 0 to 4, five factors, rate caps 0, 2 and 4, depth caps 0, 3 and
 // 9, four price lists, fees 0, 1 and 3.
@@ -66,13 +67,13 @@ fn agrees_on(trace: &[u16], small: Small) -> bool {
 }
 
 // The number of buckets and the cost, or refusal 7 where there is no cutting.
-fn same_answer(a: SeriesAnswer, choice: Choice) -> bool {
+fn same_answer(a: Result<Plan, Refusal>, choice: Choice) -> bool {
     let priced = choice.cost < UNPRICED as u32;
     match a {
-        SeriesAnswer::Found(x) => {
+        Ok(x) => {
             let buckets = x.buckets == buckets_of(choice.cutting);
             priced & buckets & (x.cost == choice.cost as u64)
         }
-        SeriesAnswer::Refused(x) => !priced & (terms::refusal_number(x) == 7),
+        Err(x) => !priced & (u32::from(x) == 7),
     }
 }

@@ -1,10 +1,10 @@
 // The depth calls and the single call against trials of every bucket: a small case, its trace and tariff,
 // and whether the calls answer as the trials do.
-use depth::{DepthAnswer, depth_at, depth_from_end};
+use single::Priced;
+use depth::{depth_at, depth_from_end};
 use samples::plain::{Best, cheapest, smallest};
 use samples::small::{Small, demand, small_tariff, tariff_of};
-use single::SingleAnswer;
-use terms::Rate;
+use terms::{Depth, Rate, Refusal};
 
 // One to four periods with demands 0 to 4, five factors, rate caps 0, 2 and 4, depth caps 0, 3 and
 // 9, four price lists.
@@ -35,14 +35,14 @@ fn singles_agree(trace: &[u16], small: Small) -> bool {
     )
 }
 
-fn same_single(a: SingleAnswer, best: Best) -> bool {
+fn same_single(a: Result<Priced, Refusal>, best: Best) -> bool {
     match a {
-        SingleAnswer::Found(x) => {
+        Ok(x) => {
             let rate = x.bucket.rate.0 == best.rate as u32;
             let depth = x.bucket.depth.0 == best.depth as u32;
             best.found & rate & depth & (x.cost == best.cost as u64)
         }
-        SingleAnswer::Refused(x) => !best.found & (terms::refusal_number(x) == 7),
+        Err(x) => !best.found & (u32::from(x) == 7),
     }
 }
 
@@ -64,9 +64,9 @@ fn both_agree(trace: &[u16], turned: &[u16], small: Small, rate: u8) -> bool {
         & same_depth(depth_from_end(turned, rate, tariff), depth)
 }
 
-fn same_depth(a: DepthAnswer, depth: u32) -> bool {
+fn same_depth(a: Result<Depth, Refusal>, depth: u32) -> bool {
     match a {
-        DepthAnswer::Found(b) => b.0 == depth,
-        DepthAnswer::Refused(x) => (depth == 256) & (terms::refusal_number(x) == 7),
+        Ok(b) => b.0 == depth,
+        Err(x) => (depth == 256) & (u32::from(x) == 7),
     }
 }

@@ -3,7 +3,7 @@
 
 mod plain;
 
-use causes::{ExplainAnswer, explain};
+use causes::explain;
 use plain::{first_short, is_named};
 use samples::plain::smallest;
 use samples::small::{Small, demand, small_tariff, tariff_of};
@@ -49,12 +49,12 @@ fn agrees_on(trace: &[u16], small: Small, rate: u8) -> bool {
     let depth = smallest(trace, small, rate);
     let answer = explain(trace, Rate(rate as u32), tariff_of(small));
     match answer {
-        ExplainAnswer::Found(x) => {
+        Ok(x) => {
             let cause = x.cause;
             let found = first_short(trace, small.factor, rate, depth);
             sold & (x.depth.0 == depth) & is_named(cause, found)
         }
-        ExplainAnswer::Refused(why) => match terms::refusal_number(why) {
+        Err(why) => match u32::from(why) {
             5 => !sold,
             7 => sold & (depth == 256),
             _ => false,

@@ -9,12 +9,20 @@ use mathlib.Core.Bool.{Bool, true, false, cond}
 use mathlib.Core.List.{List, [], ◌∷◌}
 use lib.ListN.{length, get_or, drop, drop_of_length-le}
 use lib.Seq.{drop-cons}
-use lib.IntN.{ℤ}
+use Rattle.std.specs.Prelude.{ℤ, pos, negsuc}
+use Rattle.std.specs.Int.{int_min}
 use lib.Signed.{le_z}
 use Rattle.terms.specs.Limits.{demand_limit, depth_limit}
 use Rattle.bucket.specs.declared.period.Period.{Period}
 use Rattle.bucket.specs.Step.{held, period_of}
 use Rattle.bucket.specs.Trace.{sum_of, over_all, gap, gaps, min_z, least_of, spare_from}
+
+-- The library's smaller of two numbers is the definition's.
+pub min-is : (a b : ℤ) → int_min a b ≡ min_z a b
+min-is (pos a) (pos b) = grind arith
+min-is (pos a) (negsuc b) = refl
+min-is (negsuc a) (pos b) = refl
+min-is (negsuc a) (negsuc b) = grind arith
 
 min-same : (z : ℤ) → min_z z z ≡ z
 min-same z = go (le_z z z)

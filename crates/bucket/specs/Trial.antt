@@ -3,12 +3,9 @@
 use Rattle.std.specs.Prelude.{ℕ, List, length}
 use Rattle.terms.specs.declared.Bucket.{Bucket}
 use Rattle.terms.specs.declared.Factor.{Factor}
-use Rattle.terms.specs.Answer.{Answer, figures, refused, weigh}
-use Rattle.terms.specs.Refusals.{number_of}
+use Rattle.terms.specs.Answer.{Answer, figures, weigh}
 use Rattle.terms.specs.Ranges.{fresh_ok, periods_ok}
 use Rattle.bucket.specs.declared.trials.TrialFigures.{TrialFigures}
-use Rattle.bucket.specs.declared.trials.TrialAnswer.{TrialAnswer}
-use Rattle.bucket.specs.declared.trials.TrialAnswer.TheVariants.{Found, Refused}
 use Rattle.bucket.specs.Step.{start_of}
 use Rattle.bucket.specs.Trace.{over_all, spare_from}
 
@@ -21,8 +18,3 @@ trial_figures b f ds =
 -- 3: the trace's length; 5: the bucket or the factor. The tariff's caps do not bind a trial.
 abbrev pub trial_of : Bucket → Factor → List ℕ → Answer TrialFigures
 trial_of b f ds = weigh (periods_ok (length ds)) 3 (weigh (fresh_ok b f) 5 (figures (trial_figures b f ds)))
-
--- Each case of the answer in document 01's values and numbers.
-abbrev pub trial_says : TrialAnswer → Answer TrialFigures
-trial_says (Found x) = figures x
-trial_says (Refused x) = refused (number_of x)

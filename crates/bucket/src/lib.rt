@@ -5,4 +5,4 @@ pub mod period;
 mod trials;
 
 pub use period::Period;
-pub use trials::{TrialAnswer, TrialFigures, trial};
+pub use trials::{TrialFigures, trial};

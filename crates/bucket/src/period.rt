@@ -5,7 +5,6 @@ ghost use Rattle.terms.specs.Limits.{depth_limit};
 ghost use Rattle.terms.specs.RangeRules.{BucketRange, FreshRange};
 ghost use Rattle.bucket.specs.Step.{start_of, period_of};
 
-use terms::numbers::lesser;
 use terms::{Bucket, Factor};
 
 // What one period does, in tokens: sent, over (discarded), lost, and held into the next period.
@@ -33,9 +32,9 @@ pub fn step(bucket: Bucket, held: u32, demand: u16) -> Period
 {
     let tokens = held + bucket.rate.0;
     let demand = demand as u32;
-    let sent = lesser(demand, tokens);
+    let sent = demand.min(tokens);
     let left = tokens - sent;
-    let next = lesser(bucket.depth.0, left);
+    let next = bucket.depth.0.min(left);
     Period {
         sent,
         over: demand - sent,

@@ -2,8 +2,9 @@
 ghost use Rattle.std.specs.Prelude.{◌≤◌, ◌≡◌, length};
 ghost use Rattle.terms.specs.Limits.{depth_limit, rate_limit};
 ghost use Rattle.terms.specs.RangeRules.{FreshRange, PeriodsRange};
-ghost use Rattle.bucket.specs.Trace.{gap, min_z};
-ghost use Rattle.bucket.specs.Trial.{trial_figures, trial_of, trial_says};
+ghost use Rattle.terms.specs.Refusals.{says};
+ghost use Rattle.bucket.specs.Trace.{gap};
+ghost use Rattle.bucket.specs.Trial.{trial_figures, trial_of};
 
 use crate::period::{starting_tokens, step};
 use terms::{Bucket, Factor, Rate, Refusal, fresh_in_range, periods_in_range};
@@ -16,24 +17,17 @@ pub struct TrialFigures {
     pub over: u32,
 }
 
-// What a trial answers: the figures, or the refusal.
-#[derive(Clone, Copy)]
-pub enum TrialAnswer {
-    Found(TrialFigures),
-    Refused(Refusal),
-}
-
 // Spare and discards of a fresh bucket on a trace, or refusal 3 or 5. No tariff's caps bind it.
-pub fn trial(bucket: Bucket, factor: Factor, trace: &[u16]) -> TrialAnswer
-    ensures { trial_says result ≡ trial_of bucket factor trace.now }
+pub fn trial(bucket: Bucket, factor: Factor, trace: &[u16]) -> Result<TrialFigures, Refusal>
+    ensures { says result ≡ trial_of bucket factor trace.now }
 {
     if !periods_in_range(trace.len()) {
-        return TrialAnswer::Refused(Refusal::Periods);
+        return Err(Refusal::Periods);
     }
     if !fresh_in_range(bucket, factor) {
-        return TrialAnswer::Refused(Refusal::Figure);
+        return Err(Refusal::Figure);
     }
-    TrialAnswer::Found(figures(bucket, factor, trace))
+    Ok(figures(bucket, factor, trace))
 }
 
 // One walk through the trace, first period to last.
@@ -46,14 +40,11 @@ fn figures(bucket: Bucket, factor: Factor, trace: &[u16]) -> TrialFigures
     let mut held = starting_tokens(bucket, factor);
     let mut spare = to_spare(rate, held, trace[0]);
     let mut over: u32 = 0;
-    let mut i = 0;
-    while i < trace.len() {
-        let demand = trace[i];
-        spare = lesser(spare, to_spare(rate, held, demand));
+    for &demand in trace {
+        spare = spare.min(to_spare(rate, held, demand));
         let period = step(bucket, held, demand);
         over += period.over;
         held = period.held;
-        i += 1;
     }
     TrialFigures { spare, over }
 }
@@ -67,10 +58,4 @@ fn to_spare(rate: Rate, held: u32, demand: u16) -> i64
     let tokens = (held + rate.0) as i64;
     let wanted = demand as i64;
     tokens - wanted
-}
-
-fn lesser(a: i64, b: i64) -> i64
-    ensures { result ≡ min_z a b }
-{
-    if a <= b { a } else { b }
 }

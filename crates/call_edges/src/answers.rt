@@ -1,11 +1,11 @@
 // One case in a line: its name and the answer.
+use series::Plan;
 use crate::meters::print_meter;
 use cases::{DEMANDS, bucket_of, demands, factor_of, field, figure, first, tariff_of, trace};
 use list_calls::series_on;
 use meter::{meter_run, open_meter};
 use samples::lent_records::filled;
-use series::SeriesAnswer;
-use terms::{Rate, Tariff, tariff_in_range};
+use terms::{Rate, Refusal, Tariff, tariff_in_range};
 
 pub fn named(rt: &impl Print, line: &[u8]) {
     let mut room = [0u16; DEMANDS];
@@ -56,9 +56,9 @@ fn series(rt: &impl Print, trace: &[u16], tariff: Tariff, entries: usize) {
 }
 
 // The number of buckets; none on a refusal.
-fn buckets_of(answer: SeriesAnswer) -> usize {
+fn buckets_of(answer: Result<Plan, Refusal>) -> usize {
     match answer {
-        SeriesAnswer::Found(plan) => plan.buckets as usize,
-        SeriesAnswer::Refused(_) => 0,
+        Ok(plan) => plan.buckets as usize,
+        Err(_) => 0,
     }
 }

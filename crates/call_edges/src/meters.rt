@@ -1,6 +1,7 @@
 // A meter's record: from figures, printed, and offered the least and the greatest demand.
+use terms::Refusal;
 use cases::{bucket_of, factor_of, figure, large};
-use meter::{Meter, MeterAnswer, OfferAnswer};
+use meter::Meter;
 
 // The bucket, its factor, the tokens held, the periods, and what was sent, over and lost.
 pub fn meter(field: &[u8]) -> Meter {
@@ -18,10 +19,10 @@ pub fn meter(field: &[u8]) -> Meter {
 }
 
 // A meter's record, or the refusal, to the end of the line.
-pub fn print_meter(rt: &impl Print, a: MeterAnswer) {
+pub fn print_meter(rt: &impl Print, a: Result<Meter, Refusal>) {
     match a {
-        MeterAnswer::Opened(m) => figures(rt, m),
-        MeterAnswer::Refused(x) => report::refusal(rt, x),
+        Ok(m) => figures(rt, m),
+        Err(x) => report::refusal(rt, x),
     }
     report::end_line(rt);
 }
@@ -49,8 +50,8 @@ fn offering(rt: &impl Print, edge: &[u8], m: Meter, demand: u16) {
     let next = o.meter;
     let answer = o.answer;
     match answer {
-        OfferAnswer::Taken(_) => figures(rt, next),
-        OfferAnswer::Refused(x) => {
+        Ok(_) => figures(rt, next),
+        Err(x) => {
             report::refusal(rt, x);
             if !same(m, next) {
                 report::words(rt, b" and changed the record");

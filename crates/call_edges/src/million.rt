@@ -1,6 +1,6 @@
 // As many periods as a meter takes, and one more: offered one by one, and in a run.
 use crate::meters::{figures, offers, print_meter};
-use meter::{Meter, MeterAnswer, meter_run, open_meter};
+use meter::{Meter, meter_run, open_meter};
 use terms::{Bucket, Depth, Factor, Rate};
 
 const OFFERS: u32 = 1_000_000;
@@ -18,7 +18,7 @@ fn bucket() -> Bucket {
 // A meter takes a million offers and refuses the next.
 pub fn offers_until_full(rt: &impl Print) {
     let opened = open_meter(bucket(), Factor { p: 1, q: 2 });
-    let MeterAnswer::Opened(m) = opened else {
+    let Ok(m) = opened else {
         return;
     };
     let full = after_offers(m);

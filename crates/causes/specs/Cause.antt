@@ -13,8 +13,6 @@ use Rattle.depth.specs.Depth.{depth_of, first_from}
 use Rattle.causes.specs.declared.explaining.Cause.{Cause}
 use Rattle.causes.specs.declared.explaining.Cause.TheVariants.{Nothing, Opening, Stretch}
 use Rattle.causes.specs.declared.explaining.Explained.{Explained}
-use Rattle.causes.specs.declared.explaining.ExplainAnswer.{ExplainAnswer}
-use Rattle.causes.specs.declared.explaining.ExplainAnswer.TheVariants.{Found, Refused}
 
 pub data SetBy : Type 0 where
   nothing : SetBy
@@ -97,6 +95,6 @@ cause_says (Stretch x) = stretch x.first x.last
 abbrev pub explained_says : Explained → Explanation
 explained_says x = record { depth = x.depth.0; cause = cause_says x.cause }
 
-abbrev pub explain_says : ExplainAnswer → Answer Explanation
+abbrev pub explain_says : (Result Explained Refusal) → Answer Explanation
 explain_says (Found x) = figures (explained_says x)
 explain_says (Refused x) = refused (number_of x)

@@ -6,7 +6,7 @@ ghost use Rattle.causes.specs.Cause.{cause_of, cause_says, explain_of, explain_s
 
 use crate::searches::{opening_end, stretch_end, stretch_start};
 use bucket::period::starting_tokens;
-use depth::{DepthAnswer, depth_at};
+use depth::depth_at;
 use terms::{Bucket, Depth, Rate, Refusal, Tariff};
 
 // The first periods of a trace, so many of them. "Opening" and "stretch" are document 02's words.
@@ -37,27 +37,17 @@ pub struct Explained {
     pub cause: Cause,
 }
 
-// What the explaining call answers: the depth with its cause, or the refusal.
-#[derive(Clone, Copy)]
-pub enum ExplainAnswer {
-    Found(Explained),
-    Refused(Refusal),
-}
-
 // The smallest depth, at most the tariff's cap, that carries the trace at the rate, and its cause: an
 // opening that the starting tokens of a depth one smaller fall short of, else a stretch from period 2 or
 // later that the smaller depth falls short of, the one that ends first and of those the longest; or
 // refusal 3, 5 or 7, as the depth call gives it. Behind that call the trace is gone through at most three
 // times, one after the other.
-pub fn explain(trace: &[u16], rate: Rate, tariff: Tariff) -> ExplainAnswer
+pub fn explain(trace: &[u16], rate: Rate, tariff: Tariff) -> Result<Explained, Refusal>
     ensures { explain_says result ≡ explain_of tariff rate.0 trace.now }
 {
-    let depth = match depth_at(trace, rate, tariff) {
-        DepthAnswer::Found(x) => x,
-        DepthAnswer::Refused(why) => return ExplainAnswer::Refused(why),
-    };
+    let depth = depth_at(trace, rate, tariff)?;
     let cause = cause_of(trace, rate, tariff, depth);
-    ExplainAnswer::Found(Explained { depth, cause })
+    Ok(Explained { depth, cause })
 }
 
 // The cause of the depth that the depth call answers.

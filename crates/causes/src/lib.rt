@@ -4,4 +4,4 @@
 mod explaining;
 mod searches;
 
-pub use explaining::{Cause, ExplainAnswer, Explained, Opening, Stretch, explain};
+pub use explaining::{Cause, Explained, Opening, Stretch, explain};

@@ -5,7 +5,6 @@ ghost use Rattle.terms.specs.Limits.{depth_limit, rate_limit};
 ghost use Rattle.terms.specs.RangeRules.{BucketRange, PeriodsRange};
 ghost use Rattle.causes.specs.Cause.{opening_end, stretch_end, stretch_start};
 
-use terms::numbers::short_by;
 use terms::{Bucket, Rate};
 
 // How many first periods need more than the tokens, the least such number; or 0 where none do.
@@ -39,7 +38,7 @@ pub fn stretch_end(trace: &[u16], bucket: Bucket) -> usize
     let mut need: u32 = 0;
     let mut last = 1;
     while last < trace.len() {
-        need = short_by(need + trace[last] as u32, bucket.rate.0);
+        need = (need + trace[last] as u32).saturating_sub(bucket.rate.0);
         last += 1;
         if bucket.depth.0 < need {
             return last;

@@ -1,9 +1,9 @@
 // One check: an order and a plan, what is said of them, and the line of it in a text with so much room.
+use terms::Refusal;
+use recording::Booking;
 use crate::joined::{JOINED_BYTES, joined, put_files};
-use booking::BookingAnswer;
 use cases::{DEMANDS, demands, field, figure, file_of, tariff_of, trace};
 use checking::{CheckAnswer, check, check_files, check_line};
-use encoding::FillAnswer;
 use list_calls::book_on;
 use order_file::write_order;
 use samples::demands::LENT_DEMAND;
@@ -64,10 +64,10 @@ fn with_own(rt: &impl Print, line: &[u8], order: &[u8]) {
 }
 
 // The length of a plan's file; 0 on a refusal.
-fn length_of(answer: BookingAnswer) -> usize {
+fn length_of(answer: Result<Booking, Refusal>) -> usize {
     match answer {
-        BookingAnswer::Booked(x) => x.length,
-        BookingAnswer::Refused(_) => 0,
+        Ok(x) => x.length,
+        Err(_) => 0,
     }
 }
 
@@ -108,7 +108,7 @@ fn print_lines(rt: &impl Print, order: &[u8], plan: &[u8], room: usize) {
 }
 
 // How many bytes were filled, and the line without its newline; or the refusal.
-fn print_line(rt: &impl Print, answer: FillAnswer, text: &[u8; LENT_BYTES]) {
+fn print_line(rt: &impl Print, answer: Result<usize, Refusal>, text: &[u8; LENT_BYTES]) {
     report::words(rt, b":");
     report::fill(rt, answer);
     let length = report::filled_of(answer);

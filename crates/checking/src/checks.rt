@@ -3,9 +3,7 @@ ghost use Rattle.std.specs.Prelude.{◌≡◌};
 ghost use Rattle.checking.specs.Check.{check_of, check_says};
 
 use crate::verdicts::{CheckAnswer, verdict};
-use order_file::OrderAnswer;
 use order_file::spreads::spread_order;
-use plan_file::PlanAnswer;
 use plan_file::reading::read_records;
 use terms::Refusal;
 use terms::limits::TRACE_LIMIT;
@@ -17,15 +15,15 @@ pub fn check(order: &[u8], plan: &[u8]) -> CheckAnswer
 {
     let mut demands = [0u16; TRACE_LIMIT];
     let found = match spread_order(order, &mut demands) {
-        OrderAnswer::Read(x) => x,
-        OrderAnswer::Refused(why) => return CheckAnswer::Refused(why),
+        Ok(x) => x,
+        Err(why) => return CheckAnswer::Refused(why),
     };
     let read = read_records(plan, TRACE_LIMIT);
     let answer = read.answer;
     let records = read.records;
     let stated = match answer {
-        PlanAnswer::Read(x) => x,
-        PlanAnswer::Refused(why) => return CheckAnswer::Refused(why),
+        Ok(x) => x,
+        Err(why) => return CheckAnswer::Refused(why),
     };
     if stated.periods != found.periods {
         return CheckAnswer::Refused(Refusal::Unequal);

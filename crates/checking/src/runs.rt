@@ -5,7 +5,7 @@ ghost use Rattle.terms.specs.RangeRules.{FreshRange, PeriodsRange};
 ghost use Rattle.checking.specs.Check.{plan_ok, run_ok};
 ghost use Rattle.checking.specs.WeighLaws.{Weighable, stated_plan};
 
-use bucket::{TrialAnswer, trial};
+use bucket::trial;
 use plan_file::PlanFigures;
 use single::costs::cost_of;
 use terms::limits::TRACE_LIMIT;
@@ -17,7 +17,7 @@ fn run_holds(tariff: Tariff, bucket: Bucket, run: &[u16]) -> bool
     requires periods_range { PeriodsRange (length run.now) }
     ensures { result ≡ run_ok tariff run.now bucket }
 {
-    let TrialAnswer::Found(figures) = trial(bucket, tariff.factor, run) else {
+    let Ok(figures) = trial(bucket, tariff.factor, run) else {
         return false;
     };
     (bucket.rate.0 <= tariff.rate_cap.0)

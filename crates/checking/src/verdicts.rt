@@ -7,7 +7,6 @@ ghost use Rattle.checking.specs.WeighLaws.{Weighable, stated_plan};
 
 use crate::runs::plan_holds;
 use plan_file::PlanFigures;
-use series::SeriesAnswer;
 use series::planner::plan_series;
 use terms::limits::TRACE_LIMIT;
 use terms::{BucketRecord, Refusal, Tariff};
@@ -35,7 +34,7 @@ pub fn verdict(
     }
     let least = plan_series(trace, tariff, TRACE_LIMIT).answer;
     match least {
-        SeriesAnswer::Found(plan) => CheckAnswer::Yes(stated.cost - plan.cost),
-        SeriesAnswer::Refused(_) => CheckAnswer::No,
+        Ok(plan) => CheckAnswer::Yes(stated.cost - plan.cost),
+        Err(_) => CheckAnswer::No,
     }
 }

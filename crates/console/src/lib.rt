@@ -10,7 +10,6 @@ mod reasons;
 ghost use Rattle.console.specs.Counts.{IsPrefixLen};
 
 pub use arguments::{has_words, is_word, number_argument};
-use encoding::FillAnswer;
 use order_file::LONGEST_ORDER;
 use reasons::say;
 use std::io::Read;
@@ -45,10 +44,10 @@ pub fn read_all(rt: &impl Input, errors: &impl Print, room: &mut [u8], what: &[u
 }
 
 // Writes the text that a call has filled to standard output, or the refusal line.
-pub fn print(to: &impl Print, errors: &impl Print, answer: FillAnswer, text: &[u8], what: &[u8]) {
+pub fn print(to: &impl Print, errors: &impl Print, answer: Result<usize, Refusal>, text: &[u8], what: &[u8]) {
     match answer {
-        FillAnswer::Filled(length) => put_front(to, errors, text, length, what),
-        FillAnswer::Refused(why) => refuse(to, errors, why, what),
+        Ok(length) => put_front(to, errors, text, length, what),
+        Err(why) => refuse(to, errors, why, what),
     }
 }
 
@@ -62,7 +61,7 @@ pub fn put_front(to: &impl Print, errors: &impl Print, bytes: &[u8], length: usi
 // Writes the refusal line.
 pub fn refuse(to: &impl Print, errors: &impl Print, why: Refusal, what: &[u8]) {
     let mut line = [0u8; LONGEST_REFUSAL];
-    let FillAnswer::Filled(length) = refusal_line(why, &mut line) else {
+    let Ok(length) = refusal_line(why, &mut line) else {
         return;
     };
     put_front(to, errors, &line, length, what);

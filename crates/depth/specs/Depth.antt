@@ -6,8 +6,6 @@ use Rattle.terms.specs.Answer.{Answer, figures, refused, weigh}
 use Rattle.terms.specs.Refusals.{number_of}
 use Rattle.terms.specs.Ranges.{periods_ok, tariff_ok}
 use Rattle.bucket.specs.Trace.{carries}
-use Rattle.depth.specs.declared.depths.DepthAnswer.{DepthAnswer}
-use Rattle.depth.specs.declared.depths.DepthAnswer.TheVariants.{Found, Refused}
 
 -- The first of the n numbers b, b + 1, .. that passes a test, or refusal 7. (What a `let` binds is worked out only if
 -- it is asked for, so the search ends where it finds.)
@@ -36,6 +34,6 @@ abbrev pub depth_from_end : Tariff → ℕ → List ℕ → Answer ℕ
 depth_from_end t r list = depth_of t r (reverse list)
 
 -- Each case of the answer in document 01's values and numbers.
-abbrev pub depth_says : DepthAnswer → Answer ℕ
+abbrev pub depth_says : (Result Depth Refusal) → Answer ℕ
 depth_says (Found B) = figures B.0
 depth_says (Refused x) = refused (number_of x)

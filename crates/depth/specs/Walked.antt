@@ -6,8 +6,6 @@ use Rattle.terms.specs.declared.Tariff.{Tariff}
 use Rattle.terms.specs.Answer.{Answer, figures, refused, weigh}
 use Rattle.terms.specs.Refusals.{number_of}
 use Rattle.terms.specs.Ranges.{periods_ok}
-use Rattle.depth.specs.declared.depths.WalkAnswer.{WalkAnswer}
-use Rattle.depth.specs.declared.depths.WalkAnswer.TheVariants.{Walked, Refused}
 use Rattle.depth.specs.declared.walk.Walk.{Walk}
 use Rattle.depth.specs.Depth.{rate_ok}
 use Rattle.depth.specs.Walk.{walk_of}
@@ -16,6 +14,3 @@ use Rattle.depth.specs.Walk.{walk_of}
 unfoldable pub walk_for : Tariff → ℕ → List ℕ → Answer Walk
 walk_for t r ds = weigh (periods_ok (length ds)) 3 (weigh (rate_ok t r) 5 (figures (walk_of r ds)))
 
-abbrev pub walk_says : WalkAnswer → Answer Walk
-walk_says (Walked w) = figures w
-walk_says (Refused x) = refused (number_of x)

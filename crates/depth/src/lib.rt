@@ -4,4 +4,4 @@
 mod depths;
 pub mod walk;
 
-pub use depths::{DepthAnswer, depth_at, depth_from_end};
+pub use depths::{depth_at, depth_from_end};

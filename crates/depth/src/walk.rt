@@ -7,8 +7,6 @@ ghost use Rattle.depth.specs.Depth.{depth_says};
 ghost use Rattle.depth.specs.Walk.{started, pushed, turned, ceiling, depth_from};
 ghost use Rattle.depth.specs.WalkRanges.{WalkRange};
 
-use crate::depths::DepthAnswer;
-use terms::numbers::{greater, short_by};
 use terms::{Depth, Factor, Rate, Refusal};
 
 // What the periods so far ask for, in tokens.
@@ -48,13 +46,13 @@ impl Walk {
     {
         let sum = self.sum + demand as u32;
         let gained = self.gained + rate.0;
-        let ending = short_by(self.ending + demand as u32, rate.0);
+        let ending = (self.ending + demand as u32).saturating_sub(rate.0);
         Walk {
             sum,
             gained,
-            opening: greater(self.opening, short_by(sum, gained)),
+            opening: self.opening.max(sum.saturating_sub(gained)),
             ending,
-            stretch: greater(self.stretch, ending),
+            stretch: self.stretch.max(ending),
         }
     }
 
@@ -72,7 +70,7 @@ impl Walk {
     }
 
     // The smallest depth, at most the cap, that meets the needs so far, or refusal 7.
-    pub fn depth(self, factor: Factor, cap: Depth) -> DepthAnswer
+    pub fn depth(self, factor: Factor, cap: Depth) -> Result<Depth, Refusal>
         requires factor_range { FactorRange factor }
         requires cap_le_depth_limit { cap.0 ≤ depth_limit }
         requires walk_range { WalkRange trace_limit self }
@@ -82,13 +80,13 @@ impl Walk {
         let most = factor.p as u64 * cap.0 as u64;
         let met = (self.stretch <= cap.0) & (opening <= most);
         if !met {
-            return DepthAnswer::Refused(Refusal::NoPlan);
+            return Err(Refusal::NoPlan);
         }
         if opening == 0 {
-            return DepthAnswer::Found(Depth(self.stretch));
+            return Ok(Depth(self.stretch));
         }
         let fresh = rounded_up(opening as u32, factor.p);
-        DepthAnswer::Found(Depth(greater(self.stretch, fresh)))
+        Ok(Depth(self.stretch.max(fresh)))
     }
 }
 

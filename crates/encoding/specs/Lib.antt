@@ -1,7 +1,6 @@
 -- The definitions that contracts cite, in reading order, and their laws.
 pub mod Number
 pub mod Header
-pub mod Fill
 pub mod NumberLaws
 pub mod HeaderLaws
 pub mod StoreLaws

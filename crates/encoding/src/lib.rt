@@ -1,9 +1,5 @@
-// How the two files are put into bytes: little-endian numbers, the places in a header, and what a
-// call answers that fills something lent.
+// How the two files are put into bytes: little-endian numbers and the places in a header.
 #![tactic(auto)]
 
-mod fills;
 pub mod headers;
 pub mod numbers;
-
-pub use fills::FillAnswer;

@@ -12,9 +12,7 @@ pub fn number_at(bytes: &[u8], at: usize, width: usize) -> u64
     ensures upper_bound { result < 256 ^ width }
 {
     let mut value: u64 = 0;
-    let mut k = width;
-    while 0 < k {
-        k -= 1;
+    for k in (0..width).rev() {
         value = value * 256 + bytes[at + k] as u64;
     }
     value
@@ -34,11 +32,9 @@ pub fn put_number(bytes: &mut [u8], at: usize, width: usize, value: u64)
     ensures { bytes.new ≡ sets bytes.old at (bytes_of width value) }
 {
     let mut rest = value;
-    let mut k = 0;
-    while k < width {
+    for k in 0..width {
         bytes[at + k] = (rest % 256) as u8;
         rest /= 256;
-        k += 1;
     }
 }
 
@@ -48,10 +44,8 @@ pub fn put_words(bytes: &mut [u8], at: usize, words: &[u32])
     ensures { bytes.new ≡ sets bytes.old at (bytes_of_all (bytes_of 4) words.now) }
 {
     let mut next = at;
-    let mut i = 0;
-    while i < words.len() {
-        put_number(bytes, next, 4, words[i] as u64);
+    for &word in words {
+        put_number(bytes, next, 4, word as u64);
         next += 4;
-        i += 1;
     }
 }

@@ -6,6 +6,7 @@ use Rattle.terms.specs.Answer.{Answer, figures, refused, on_figures, figure_or}
 use Rattle.terms.specs.AnswerLaws.{on_figures_lem, on_refused, then_figures, then_refused}
 use Rattle.terms.specs.Limits.{trace_limit}
 use Rattle.terms.specs.Records.{Cutting}
+use Rattle.terms.specs.Refusals.{says}
 use Rattle.encoding.specs.FillLaws.{Fills, fill_refused}
 use Rattle.series.specs.Series.{true_cost_of}
 use Rattle.record_list.specs.Held.{counted, held}
@@ -15,7 +16,7 @@ use Rattle.plan_file.specs.Plan.{Recorded, buckets_of, figures_in, plan_file, re
 use Rattle.plan_file.specs.CallLaws.{count_fits}
 use Rattle.planning.specs.declared.planned_orders.PlannedOrder.{PlannedOrder}
 use Rattle.planning.specs.declared.planned_orders.PlannedRecords.{PlannedRecords}
-use Rattle.planning.specs.Planning.{planned, planned_says}
+use Rattle.planning.specs.Planning.{planned}
 use Rattle.planning.specs.CallLaws.{PlansOrder, plan-refused, the_plan, plan-found, plan_figures_lem, records_are}
 use Rattle.booking.specs.Booking.{plan_figures}
 use Rattle.exports.specs.Answers.{coded, plan_file_in, planned_cost, read_in}
@@ -30,13 +31,13 @@ abbrev pub figures_for : PlannedOrder → PlanFigures
 figures_for y = record { periods = y.order.periods; buckets = y.plan.buckets; cost = y.plan.cost }
 
 module _ (bs : List ℕ) (r : PlannedRecords) (p : PlansOrder bs trace_limit trace_limit r) where
-  pub cost-refused : (n : ℕ) → planned_says r.answer ≡ refused n → refused n ≡ planned_cost bs
+  pub cost-refused : (n : ℕ) → says r.answer ≡ refused n → refused n ≡ planned_cost bs
   cost-refused n f = sym (ap (on_figures (λ x. true_cost_of x.order.tariff x.cutting)) (plan-refused bs trace_limit trace_limit r p n f))
 
-  pub file-refused : (n : ℕ) → planned_says r.answer ≡ refused n → (old : List ℕ) → Fills (plan_file_in (length old) bs) old (refused n) old
+  pub file-refused : (n : ℕ) → says r.answer ≡ refused n → (old : List ℕ) → Fills (plan_file_in (length old) bs) old (refused n) old
   file-refused n f old = fill_refused (plan_file_in (length old) bs) old n (sym (then_refused (planned trace_limit trace_limit bs) _ (plan-refused bs trace_limit trace_limit r p n f)))
 
-  module _ (y : PlannedOrder) (f : planned_says r.answer ≡ figures y) where
+  module _ (y : PlannedOrder) (f : says r.answer ≡ figures y) where
     pub cost-found : figures y.plan.cost ≡ planned_cost bs
     cost-found =
         ap (λ (z : PlannedOrder). figures z.plan.cost) (sym (plan_figures_lem bs trace_limit trace_limit r p y f))

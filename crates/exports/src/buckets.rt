@@ -6,9 +6,7 @@ ghost use Rattle.services.specs.Services.{depth_for, depth_from_end_for, single_
 ghost use Rattle.exports.specs.Answers.{coded};
 
 use crate::answers::{coded_depth, coded_refusal};
-use bucket::TrialAnswer;
 use services::figures::{depth_for, depth_from_end_for, single_for, trial_for};
-use single::SingleAnswer;
 use terms::{Bucket, Depth, Rate};
 
 // The smallest depth that carries an order's trace at a rate; or refusal 1 to 5 of the order, 5 of the
@@ -34,8 +32,8 @@ pub fn metqoraz_single(order: &[u8], rate: &mut u32, depth: &mut u32) -> u64
     ensures depth_after { depth.new ≡ figure_or (on_figures (λ s. s.bucket.depth.0) (single_for order.now)) depth.old }
 {
     let priced = match single_for(order) {
-        SingleAnswer::Found(x) => x,
-        SingleAnswer::Refused(why) => return coded_refusal(why),
+        Ok(x) => x,
+        Err(why) => return coded_refusal(why),
     };
     *rate = priced.bucket.rate.0;
     *depth = priced.bucket.depth.0;
@@ -53,8 +51,8 @@ pub fn metqoraz_trial(order: &[u8], rate: u32, depth: u32, spare: &mut i64) -> u
         depth: Depth(depth),
     };
     let figures = match trial_for(order, bucket) {
-        TrialAnswer::Found(x) => x,
-        TrialAnswer::Refused(why) => return coded_refusal(why),
+        Ok(x) => x,
+        Err(why) => return coded_refusal(why),
     };
     let least = figures.spare;
     *spare = least;

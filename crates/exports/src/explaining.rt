@@ -6,7 +6,7 @@ ghost use Rattle.services.specs.Services.{explain_for};
 ghost use Rattle.exports.specs.Answers.{cause_numbers, coded};
 
 use crate::answers::coded_refusal;
-use causes::{Cause, ExplainAnswer};
+use causes::Cause;
 use services::figures::explain_for;
 use terms::Rate;
 
@@ -35,8 +35,8 @@ pub fn metqoraz_explain(
     ensures last_after { last.new ≡ figure_or (on_figures (λ x. (cause_numbers x.cause).last) (explain_for rate order.now)) last.old }
 {
     let explained = match explain_for(order, Rate(rate)) {
-        ExplainAnswer::Found(x) => x,
-        ExplainAnswer::Refused(why) => return coded_refusal(why),
+        Ok(x) => x,
+        Err(why) => return coded_refusal(why),
     };
     let named = explained.cause;
     let numbers = numbers_of(named);

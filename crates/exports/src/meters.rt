@@ -7,7 +7,7 @@ ghost use Rattle.single.specs.Single.{bucket_of};
 ghost use Rattle.exports.specs.Answers.{coded, factor_of, meter_figures, meter_in};
 
 use crate::answers::coded_refusal;
-use meter::{Meter, MeterAnswer, meter_run};
+use meter::{Meter, meter_run};
 use terms::{Bucket, Depth, Factor, Rate, Refusal, fresh_in_range};
 
 // The figures of a meter's record that are handed over.
@@ -39,8 +39,8 @@ pub fn metqoraz_meter(
         return coded_refusal(Refusal::List);
     }
     let meter = match meter_run(bucket, factor, offers) {
-        MeterAnswer::Opened(x) => x,
-        MeterAnswer::Refused(why) => return coded_refusal(why),
+        Ok(x) => x,
+        Err(why) => return coded_refusal(why),
     };
     put_totals(meter, totals);
     meter.periods as u64

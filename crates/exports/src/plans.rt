@@ -10,10 +10,9 @@ use crate::answers::{coded_fill, coded_refusal};
 use crate::figure_lists::store_figures;
 use plan_file::reading::read_records;
 use plan_file::writing::write_records;
-use plan_file::{PlanAnswer, PlanFigures};
-use planning::planned_orders::{PlannedAnswer, plan_order};
+use plan_file::PlanFigures;
+use planning::planned_orders::plan_order;
 use terms::limits::TRACE_LIMIT;
-use terms::numbers::shorter;
 
 // The cost of the cheapest plan for an order; or refusal 1 to 5 of the order or 7.
 pub fn metqoraz_series(order: &[u8]) -> u64
@@ -21,8 +20,8 @@ pub fn metqoraz_series(order: &[u8]) -> u64
 {
     let answer = plan_order(order, TRACE_LIMIT, TRACE_LIMIT).answer;
     match answer {
-        PlannedAnswer::Found(x) => x.plan.cost,
-        PlannedAnswer::Refused(why) => coded_refusal(why),
+        Ok(x) => x.plan.cost,
+        Err(why) => coded_refusal(why),
     }
 }
 
@@ -35,8 +34,8 @@ pub fn metqoraz_book(order: &[u8], plan: &mut [u8]) -> u64
     let planned = plan_order(order, TRACE_LIMIT, TRACE_LIMIT);
     let answer = planned.answer;
     let found = match answer {
-        PlannedAnswer::Found(x) => x,
-        PlannedAnswer::Refused(why) => return coded_refusal(why),
+        Ok(x) => x,
+        Err(why) => return coded_refusal(why),
     };
     let figures = PlanFigures {
         periods: found.order.periods,
@@ -65,13 +64,13 @@ pub fn metqoraz_plan(
         (lists runs.old rates.old depths.old)
         (lists runs.new rates.new depths.new) }
 {
-    let room = shorter(shorter(runs.len(), rates.len()), depths.len());
+    let room = runs.len().min(rates.len()).min(depths.len());
     let read = read_records(plan, room);
     let answer = read.answer;
     let records = read.records;
     let found = match answer {
-        PlanAnswer::Read(x) => x,
-        PlanAnswer::Refused(why) => return coded_refusal(why),
+        Ok(x) => x,
+        Err(why) => return coded_refusal(why),
     };
     store_figures(records, found.buckets as usize, runs, rates, depths);
     *periods = found.periods;

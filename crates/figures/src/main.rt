@@ -7,7 +7,7 @@ use cases::{
 };
 use console::{INPUT_ROOM, read_all};
 use list_calls::series_on;
-use metqoraz::{BucketRecord, LONGEST_FIGURE, MeterAnswer, Rate, Tariff};
+use metqoraz::{BucketRecord, LONGEST_FIGURE, Rate, Tariff};
 use samples::file_bytes::front;
 use samples::lent_records::{ENTRIES, record_of};
 
@@ -81,14 +81,14 @@ fn row_j(rt: &impl Print) {
     let bucket = b"5 4 1 2";
     let a = metqoraz::open_meter(bucket_of(bucket), factor_of(bucket));
     match a {
-        MeterAnswer::Opened(m) => {
+        Ok(m) => {
             let m = metqoraz::offer(m, 4).meter;
             let m = metqoraz::offer(m, 8).meter;
             let m = metqoraz::offer(m, 2).meter;
             let m = metqoraz::offer(m, 9).meter;
             report::totals(rt, m.sent, m.over, m.lost, m.held as u64);
         }
-        MeterAnswer::Refused(x) => report::refusal(rt, x),
+        Err(x) => report::refusal(rt, x),
     }
     report::end_line(rt);
 }

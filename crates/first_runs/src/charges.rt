@@ -10,11 +10,9 @@ ghost use Rattle.depth.specs.WalkRanges.{WalkRange};
 ghost use Rattle.first_runs.specs.Charge.{CostRange, Stepped, Stops, StopsAt, walk_depth};
 ghost use Rattle.first_runs.specs.Outline.{unpriced};
 
-use depth::DepthAnswer;
 use depth::walk::Walk;
 use single::costs::{billed_periods, charge_of};
 use terms::limits::TRACE_LIMIT;
-use terms::numbers::greater;
 use terms::{Bucket, Depth, Rate, Refusal, Tariff};
 
 // Stands for the charge where no depth inside the cap serves. Every charge is below it.
@@ -53,7 +51,7 @@ impl Charged {
         let old = self.walk;
         let before = self.depth;
         let walk = old.push(high, demand);
-        let DepthAnswer::Found(depth) = depth_after(old, before, walk, tariff) else {
+        let Ok(depth) = depth_after(old, before, walk, tariff) else {
             return Charged {
                 walk,
                 depth: before,
@@ -71,7 +69,7 @@ impl Charged {
 
 // The depth that a walk needs one period on. While the opening is as it was, what was needed before
 // and the stretch give it, and nothing is divided.
-fn depth_after(old: Walk, depth: Depth, new: Walk, tariff: Tariff) -> DepthAnswer
+fn depth_after(old: Walk, depth: Depth, new: Walk, tariff: Tariff) -> Result<Depth, Refusal>
     requires tariff_range { TariffRange tariff }
     requires walk_range { WalkRange trace_limit new }
     requires stretch_le_stretch { old.stretch ≤ new.stretch }
@@ -82,9 +80,9 @@ fn depth_after(old: Walk, depth: Depth, new: Walk, tariff: Tariff) -> DepthAnswe
         return new.depth(tariff.factor, tariff.depth_cap);
     }
     if tariff.depth_cap.0 < new.stretch {
-        return DepthAnswer::Refused(Refusal::NoPlan);
+        return Err(Refusal::NoPlan);
     }
-    DepthAnswer::Found(Depth(greater(depth.0, new.stretch)))
+    Ok(Depth(depth.0.max(new.stretch)))
 }
 
 // By the length of a first run, less 1: the least charge at which no run of that length or longer,
@@ -102,7 +100,7 @@ pub fn stops_of(costs: &[u64], tariff: Tariff, known: u64) -> [u64; TRACE_LIMIT]
         let i = periods - 1;
         let billed = billed_periods(tariff, periods as u64);
         let stop = stop_at(known, tariff.fee as u64 + costs[i], billed);
-        charge = greater_charge(charge, stop);
+        charge = charge.max(stop);
         stops[i] = charge;
         periods = i;
     }
@@ -119,10 +117,4 @@ fn stop_at(known: u64, rest: u64, periods: u64) -> u64
         return 0;
     }
     (known - rest) / periods + 1
-}
-
-fn greater_charge(a: u64, b: u64) -> u64
-    ensures { result ≡ max a b }
-{
-    if b < a { a } else { b }
 }

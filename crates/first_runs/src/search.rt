@@ -8,7 +8,6 @@ use crate::charges::stops_of;
 use crate::outlines::{Choice, Outline, UNPRICED};
 use crate::runs::{weigh_rate, weigh_rates};
 use single::rates::rates_to_weigh;
-use terms::numbers::lesser;
 use terms::{Rate, Tariff};
 
 // A charge that no walk stops at.
@@ -62,7 +61,7 @@ fn weigh_all(
     let mut best = found;
     let mut low: u32 = 0;
     while low < end {
-        let next = lesser(low + TOGETHER, end);
+        let next = (low + TOGETHER).min(end);
         best = weigh_rates(trace, tariff, low, next, costs, counts, stops, best);
         low = next;
     }

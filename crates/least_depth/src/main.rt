@@ -4,9 +4,8 @@
 #![tactic(auto)]
 
 use console::{ORDER_ROOM, has_words, is_word, number_argument, print, read_all};
-use encoding::FillAnswer;
 use services::{LONGEST_DEPTH, depth_from_end_line, depth_line};
-use terms::Rate;
+use terms::{Rate, Refusal};
 use typed_figures::NumberAnswer;
 
 fn main(rt: HostRuntime) {
@@ -42,7 +41,7 @@ fn print_depth(rt: &(impl Input + Print), errors: &impl Print, rate: Rate, from_
 }
 
 // The line of the depth, the order's demands being last period first or first to last.
-fn line_of(order: &[u8], rate: Rate, from_end: bool, text: &mut [u8]) -> FillAnswer {
+fn line_of(order: &[u8], rate: Rate, from_end: bool, text: &mut [u8]) -> Result<usize, Refusal> {
     if from_end {
         depth_from_end_line(order, rate, text)
     } else {

@@ -2,25 +2,23 @@
 ghost use Rattle.std.specs.Prelude.{◌≡◌, length};
 ghost use Rattle.terms.specs.Answer.{on_figures};
 ghost use Rattle.terms.specs.Lent.{filled};
-ghost use Rattle.encoding.specs.Fill.{fill_says};
+ghost use Rattle.terms.specs.Refusals.{says};
 ghost use Rattle.record_list.specs.Held.{counted};
 ghost use Rattle.plan_file.specs.CallLaws.{load_count};
-ghost use Rattle.plan_file.specs.Plan.{buckets_of, recorded_figures, plan_says, read_plan, VeryPlan, write_plan};
+ghost use Rattle.plan_file.specs.Plan.{buckets_of, recorded_figures, read_plan, VeryPlan, write_plan};
 
-use encoding::FillAnswer;
 use plan_file::reading::read_records;
 use plan_file::writing::write_records;
-use plan_file::{PlanAnswer, PlanFigures};
+use plan_file::PlanFigures;
 use record_list::copies::{load_records, store_records};
-use terms::BucketRecord;
+use terms::{BucketRecord, Refusal};
 use terms::limits::TRACE_LIMIT;
-use terms::numbers::shorter;
 
 // Reads a plan from any bytes: T, the number of buckets and the cost; its records fill the front of
 // the lent list. Or refusal 1 to 5, or 6 (a list with fewer entries than buckets), and the list is
 // as it was. Bytes that are read are the very file that writing those figures gives.
-pub fn read_plan(bytes: &[u8], list: &mut [BucketRecord]) -> PlanAnswer
-    ensures { (plan_says result ≡ recorded_figures (read_plan (length list.old) bytes.now))
+pub fn read_plan(bytes: &[u8], list: &mut [BucketRecord]) -> Result<PlanFigures, Refusal>
+    ensures { (says result ≡ recorded_figures (read_plan (length list.old) bytes.now))
         × (list.new ≡ filled (buckets_of (read_plan (length list.old) bytes.now)) list.old)
         × VeryPlan bytes.now (read_plan (length list.old) bytes.now) }
 {
@@ -31,20 +29,20 @@ pub fn read_plan(bytes: &[u8], list: &mut [BucketRecord]) -> PlanAnswer
 }
 
 // The number of buckets; none on a refusal.
-fn buckets_of(answer: PlanAnswer) -> usize
-    ensures { result ≡ counted (λ x. x.buckets) (plan_says answer) }
+fn buckets_of(answer: Result<PlanFigures, Refusal>) -> usize
+    ensures { result ≡ counted (λ x. x.buckets) (says answer) }
 {
     match answer {
-        PlanAnswer::Read(plan) => plan.buckets as usize,
-        PlanAnswer::Refused(_) => 0,
+        Ok(plan) => plan.buckets as usize,
+        Err(_) => 0,
     }
 }
 
 // Writes a plan into the front of the bytes, its records from the front of the list, and answers its
 // length; or refusal 3, 5 or 6 (a list with fewer entries than buckets, whose records are then not
 // weighed, or bytes fewer than the file), and the bytes are as they were.
-pub fn write_plan(plan: PlanFigures, list: &[BucketRecord], bytes: &mut [u8]) -> FillAnswer
-    ensures { (fill_says result ≡ on_figures length (write_plan (length bytes.old) plan list.now))
+pub fn write_plan(plan: PlanFigures, list: &[BucketRecord], bytes: &mut [u8]) -> Result<usize, Refusal>
+    ensures { (says result ≡ on_figures length (write_plan (length bytes.old) plan list.now))
         × (bytes.new ≡ filled (write_plan (length bytes.old) plan list.now) bytes.old) }
 {
     let count = load_count(plan, list.len());
@@ -57,5 +55,5 @@ fn load_count(plan: PlanFigures, room: usize) -> usize
     ensures { result ≡ load_count plan.buckets room }
 {
     let buckets = plan.buckets as usize;
-    shorter(shorter(buckets, room), TRACE_LIMIT)
+    buckets.min(room).min(TRACE_LIMIT)
 }

@@ -7,5 +7,5 @@ mod files;
 
 pub use cuttings::series;
 pub use files::{read_plan, write_plan};
-pub use plan_file::{PlanAnswer, PlanFigures};
-pub use series::{Plan, SeriesAnswer};
+pub use plan_file::PlanFigures;
+pub use series::Plan;

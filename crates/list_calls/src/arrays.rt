@@ -2,16 +2,17 @@
 // has as many.
 ghost use Rattle.std.specs.Prelude.{◌≤◌};
 
-use booking::{BookingAnswer, book};
-use encoding::FillAnswer;
-use lent_plans::{PlanAnswer, PlanFigures, SeriesAnswer, read_plan, series, write_plan};
+use series::Plan;
+use recording::Booking;
+use booking::book;
+use lent_plans::{PlanFigures, read_plan, series, write_plan};
 use samples::lent_records::ENTRIES;
-use terms::{BucketRecord, Tariff};
+use terms::{BucketRecord, Refusal, Tariff};
 
 // What the series call answers, and the list afterwards.
 #[derive(Clone, Copy)]
 pub struct SeriesLent {
-    pub answer: SeriesAnswer,
+    pub answer: Result<Plan, Refusal>,
     pub list: [BucketRecord; ENTRIES],
 }
 
@@ -31,7 +32,7 @@ pub fn series_in(
 // What plan reading answers, and the list afterwards.
 #[derive(Clone, Copy)]
 pub struct ReadLent {
-    pub answer: PlanAnswer,
+    pub answer: Result<PlanFigures, Refusal>,
     pub list: [BucketRecord; ENTRIES],
 }
 
@@ -48,7 +49,7 @@ pub fn write_in(
     list: [BucketRecord; ENTRIES],
     entries: usize,
     bytes: &mut [u8],
-) -> FillAnswer
+) -> Result<usize, Refusal>
     requires { entries ≤ 516 }
 {
     write_plan(plan, &list[..entries], bytes)
@@ -57,7 +58,7 @@ pub fn write_in(
 // What booking answers, and the lists planned and read into afterwards.
 #[derive(Clone, Copy)]
 pub struct BookLent {
-    pub answer: BookingAnswer,
+    pub answer: Result<Booking, Refusal>,
     pub plan: [BucketRecord; ENTRIES],
     pub back: [BucketRecord; ENTRIES],
 }

@@ -6,10 +6,9 @@ mod arrays;
 
 pub use arrays::{BookLent, ReadLent, SeriesLent};
 use arrays::{book_in, read_in, series_in, write_in};
-use encoding::FillAnswer;
 use lent_plans::PlanFigures;
 use samples::lent_records::{ENTRIES, at_most};
-use terms::{BucketRecord, Tariff};
+use terms::{BucketRecord, Refusal, Tariff};
 
 // The series planned into the first entries of a list.
 pub fn series_on(
@@ -32,7 +31,7 @@ pub fn write_on(
     list: [BucketRecord; ENTRIES],
     entries: usize,
     bytes: &mut [u8],
-) -> FillAnswer {
+) -> Result<usize, Refusal> {
     write_in(plan, list, at_most(entries, ENTRIES), bytes)
 }
 

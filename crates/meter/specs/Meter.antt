@@ -4,17 +4,13 @@ use Rattle.std.specs.Prelude.{ℕ, ◌+◌, ◌*◌, ◌≡◌, Bool, ◌&&◌, 
 use Rattle.terms.specs.declared.Bucket.{Bucket}
 use Rattle.terms.specs.declared.Factor.{Factor}
 use Rattle.terms.specs.Answer.{Answer, figures, refused, weigh, and_then}
-use Rattle.terms.specs.Refusals.{number_of}
+use Rattle.terms.specs.Refusals.{number_of, says}
 use Rattle.terms.specs.Limits.{demand_limit, meter_limit, total_limit}
 use Rattle.terms.specs.Ranges.{fresh_ok}
 use Rattle.bucket.specs.declared.period.Period.{Period}
 use Rattle.bucket.specs.Step.{start_of, period_of}
 use Rattle.bucket.specs.Trace.{held_after, sent_all, over_all, lost_all}
 use Rattle.meter.specs.declared.meters.Meter.{Meter}
-use Rattle.meter.specs.declared.meters.MeterAnswer.{MeterAnswer}
-use Rattle.meter.specs.declared.meters.MeterAnswer.TheVariants as opening
-use Rattle.meter.specs.declared.meters.OfferAnswer.{OfferAnswer}
-use Rattle.meter.specs.declared.meters.OfferAnswer.TheVariants as offering
 use Rattle.meter.specs.declared.meters.Offered.{Offered}
 
 -- Tokens held, periods and totals within their limits.
@@ -98,16 +94,7 @@ meter_on b f ds =
       lost = lost_all b.rate.0 b.depth.0 y ds;
     }
 
--- Each case of an answer in document 01's values and numbers.
-abbrev pub open_says : MeterAnswer → Answer Meter
-open_says (opening.Opened m) = figures m
-open_says (opening.Refused x) = refused (number_of x)
-
-abbrev pub offer_says : OfferAnswer → Answer Period
-offer_says (offering.Taken x) = figures x
-offer_says (offering.Refused x) = refused (number_of x)
-
 -- What an offer promises: the answer, and the record that comes back with it.
 pub record Answered (m : Meter) (d : ℕ) (r : Offered) : Type 0 where
-  pub answers : offer_says r.answer ≡ offer_of m d
+  pub answers : says r.answer ≡ offer_of m d
   pub records : r.meter ≡ record_after m (offer_of m d)

@@ -5,5 +5,5 @@
 mod meters;
 mod runs;
 
-pub use meters::{Meter, MeterAnswer, OfferAnswer, Offered, offer, open_meter};
+pub use meters::{Meter, Offered, offer, open_meter};
 pub use runs::meter_run;

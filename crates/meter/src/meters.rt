@@ -2,7 +2,8 @@
 ghost use Rattle.std.specs.Prelude.{◌≡◌};
 ghost use Rattle.terms.specs.RangeRules.{FreshRange};
 ghost use Rattle.terms.specs.Answer.{figures};
-ghost use Rattle.meter.specs.Meter.{totals_ok, balanced, meter_ok, open_of, open_says, record_after, Answered};
+ghost use Rattle.terms.specs.Refusals.{says};
+ghost use Rattle.meter.specs.Meter.{totals_ok, balanced, meter_ok, open_of, record_after, Answered};
 ghost use Rattle.meter.specs.MeterLaws.{TotalsRange};
 
 use bucket::period::{Period, starting_tokens, step};
@@ -22,36 +23,22 @@ pub struct Meter {
     pub lost: u64,
 }
 
-// What opening answers: the record of a meter that has taken no offer, or the refusal.
-#[derive(Clone, Copy)]
-pub enum MeterAnswer {
-    Opened(Meter),
-    Refused(Refusal),
-}
-
-// What one offer answers: what its period sent, discarded, lost and holds, or the refusal.
-#[derive(Clone, Copy)]
-pub enum OfferAnswer {
-    Taken(Period),
-    Refused(Refusal),
-}
-
 // The record that comes back from an offer, and the offer's answer.
 #[derive(Clone, Copy)]
 pub struct Offered {
     pub meter: Meter,
-    pub answer: OfferAnswer,
+    pub answer: Result<Period, Refusal>,
 }
 
 // A meter on a fresh bucket, or refusal 5.
-pub fn open_meter(bucket: Bucket, factor: Factor) -> MeterAnswer
-    ensures { open_says result ≡ open_of bucket factor }
+pub fn open_meter(bucket: Bucket, factor: Factor) -> Result<Meter, Refusal>
+    ensures { says result ≡ open_of bucket factor }
 {
     if !fresh_in_range(bucket, factor) {
-        return MeterAnswer::Refused(Refusal::Figure);
+        return Err(Refusal::Figure);
     }
     let held = starting_tokens(bucket, factor);
-    MeterAnswer::Opened(Meter {
+    Ok(Meter {
         bucket,
         factor,
         held,
@@ -78,7 +65,7 @@ pub fn offer(meter: Meter, demand: u16) -> Offered
     }
     Offered {
         meter: next,
-        answer: OfferAnswer::Taken(period),
+        answer: Ok(period),
     }
 }
 
@@ -88,7 +75,7 @@ fn refuse(meter: Meter, why: Refusal) -> Offered
 {
     Offered {
         meter,
-        answer: OfferAnswer::Refused(why),
+        answer: Err(why),
     }
 }
 

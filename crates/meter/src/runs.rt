@@ -1,36 +1,37 @@
 // A meter over a run of demands: opened on a bucket, and offered them one by one.
 ghost use Rattle.std.specs.Prelude.{◌≡◌};
-ghost use Rattle.meter.specs.Meter.{meter_run, offers_of, open_says};
+ghost use Rattle.terms.specs.Refusals.{says};
+ghost use Rattle.meter.specs.Meter.{meter_run, offers_of};
 
-use crate::meters::{Meter, MeterAnswer, OfferAnswer, offer, open_meter};
-use terms::{Bucket, Factor};
+use crate::meters::{Meter, offer, open_meter};
+use terms::{Bucket, Factor, Refusal};
 
 // The record that a meter ends with which is opened on the bucket and offered the demands, first to
 // last; or refusal 5, or 9 for more demands than a meter takes.
-pub fn meter_run(bucket: Bucket, factor: Factor, demands: &[u16]) -> MeterAnswer
-    ensures { open_says result ≡ meter_run bucket factor demands.now }
+pub fn meter_run(bucket: Bucket, factor: Factor, demands: &[u16]) -> Result<Meter, Refusal>
+    ensures { says result ≡ meter_run bucket factor demands.now }
 {
     let answer = open_meter(bucket, factor);
-    let MeterAnswer::Opened(meter) = answer else {
+    let Ok(meter) = answer else {
         return answer;
     };
     offer_each(meter, demands)
 }
 
 // The record that the offers leave, or the first refusal.
-fn offer_each(opened: Meter, demands: &[u16]) -> MeterAnswer
-    ensures { open_says result ≡ offers_of opened demands.now }
+fn offer_each(opened: Meter, demands: &[u16]) -> Result<Meter, Refusal>
+    ensures { says result ≡ offers_of opened demands.now }
 {
     let mut meter = opened;
     let mut i = 0;
     while i < demands.len() {
         let offered = offer(meter, demands[i]);
         let answer = offered.answer;
-        if let OfferAnswer::Refused(why) = answer {
-            return MeterAnswer::Refused(why);
+        if let Err(why) = answer {
+            return Err(why);
         }
         meter = offered.meter;
         i += 1;
     }
-    MeterAnswer::Opened(meter)
+    Ok(meter)
 }

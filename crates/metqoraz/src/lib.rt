@@ -7,29 +7,26 @@
 pub use terms::{
     Bucket, BucketRecord, Depth, DepthPrice, Factor, Rate, RatePrice, Refusal, Tariff,
     bucket_in_range, factor_in_range, fresh_in_range, periods_in_range, record_in_range,
-    refusal_number, tariff_in_range,
+    tariff_in_range,
 };
 
 // A bucket on a trace, and a bucket metered period by period.
-pub use bucket::{Period, TrialAnswer, TrialFigures, trial};
-pub use meter::{Meter, MeterAnswer, OfferAnswer, Offered, meter_run, offer, open_meter};
+pub use bucket::{Period, TrialFigures, trial};
+pub use meter::{Meter, Offered, meter_run, offer, open_meter};
 
 // The smallest depth at a rate and what sets it, the cheapest bucket, and the cheapest series of buckets.
-pub use causes::{Cause, ExplainAnswer, Explained, Opening, Stretch, explain};
-pub use depth::{DepthAnswer, depth_at, depth_from_end};
-pub use lent_plans::{Plan, SeriesAnswer, series};
-pub use single::{Priced, SingleAnswer, single};
+pub use causes::{Cause, Explained, Opening, Stretch, explain};
+pub use depth::{depth_at, depth_from_end};
+pub use lent_plans::{Plan, series};
+pub use single::{Priced, single};
 
 // The two files, and room for the longest.
-pub use encoding::FillAnswer;
-pub use lent_plans::{PlanAnswer, PlanFigures, read_plan, write_plan};
-pub use order_file::{
-    LONGEST_ORDER, Order, OrderAnswer, order_end, read_order, spread, trace_part, write_order,
-};
+pub use lent_plans::{PlanFigures, read_plan, write_plan};
+pub use order_file::{LONGEST_ORDER, Order, order_end, read_order, spread, trace_part, write_order};
 pub use plan_file::LONGEST_PLAN;
 
 // From an order file to a plan that is recorded and metered.
-pub use booking::{Booking, BookingAnswer, MeterTotals, book};
+pub use booking::{Booking, MeterTotals, book};
 
 // A plan from any planning house checked against an order, as an answer and as a line.
 pub use checking::{CheckAnswer, LONGEST_VERDICT, check, check_files, check_line};

@@ -1,8 +1,7 @@
 // What is wrong with a text, in one line on standard error: where, about which figure, its word where it
 // has one, why, and the refusal's number.
 use order_text::{Fault, Reason, refusal_of, word_around};
-use terms::numbers::shorter;
-use terms::{Refusal, refusal_number};
+use terms::Refusal;
 use typed_figures::limit_of;
 
 pub fn say(rt: &impl Eprint, fault: Fault, text: &[u8]) {
@@ -21,7 +20,7 @@ pub fn say(rt: &impl Eprint, fault: Fault, text: &[u8]) {
         Reason::Few => words(rt, "the text ends where it is due"),
     }
     words(rt, " (refused ");
-    number(rt, refusal_number(refusal_of(reason)) as u64);
+    number(rt, u32::from(refusal_of(reason)) as u64);
     words(rt, ")\n");
 }
 
@@ -31,7 +30,7 @@ pub fn long_text(rt: &impl Eprint) {
 
 pub fn refused(rt: &impl Eprint, refusal: Refusal) {
     words(rt, "order: refused ");
-    number(rt, refusal_number(refusal) as u64);
+    number(rt, u32::from(refusal) as u64);
     words(rt, "\n");
 }
 
@@ -73,8 +72,8 @@ fn of_word(rt: &impl Eprint, word: &[u8], fault: &str) {
 const SHOWN: usize = 40;
 
 fn shown(rt: &impl Eprint, word: &[u8]) {
-    for i in 0..shorter(word.len(), SHOWN) {
-        byte(rt, word[i]);
+    for &b in word.iter().take(SHOWN) {
+        byte(rt, b);
     }
 }
 

@@ -1,5 +1,5 @@
 // Demands printed: of a trace, and of the list that spreading has filled.
-use encoding::FillAnswer;
+use terms::Refusal;
 use samples::demands::are_lent;
 use samples::file_bytes::summed;
 use samples::lent_records::{ENTRIES, at_most};
@@ -20,7 +20,7 @@ pub fn print_demand(rt: &impl Print, d: u16) {
 
 // How many demands were filled and their checksum, or the refusal; then whether every entry after
 // those filled is as it was lent.
-pub fn print_list(rt: &impl Print, answer: FillAnswer, list: &[u16; ENTRIES]) {
+pub fn print_list(rt: &impl Print, answer: Result<usize, Refusal>, list: &[u16; ENTRIES]) {
     let count = report::filled_of(answer);
     report::fill(rt, answer);
     if 0 < count {

@@ -8,8 +8,6 @@ use Rattle.terms.specs.Limits.{trace_limit}
 use Rattle.terms.specs.Ranges.{periods_ok, tariff_ok}
 use Rattle.terms.specs.RangeRules.{PeriodsRange, TariffRange}
 use Rattle.order_file.specs.declared.orders.Order.{Order}
-use Rattle.order_file.specs.declared.orders.OrderAnswer.{OrderAnswer}
-use Rattle.order_file.specs.declared.orders.OrderAnswer.TheVariants.{Read, Refused}
 use Rattle.encoding.specs.Number.{bytes_of, number_at, bytes_of_all, items_at}
 use Rattle.encoding.specs.Header.{Placed, placed_as}
 
@@ -80,11 +78,6 @@ pub record OrderRules (bs : List ℕ) : Type 0 where
   pub periods : PeriodsRange (number_at 4 bs 4)
   pub placed : Placed 8 tariff_offset trace_offset (order_length (number_at 4 bs 4)) bs
   pub tariff : TariffRange (tariff_in bs)
-
--- Each case of the answer in document 01's values and numbers.
-abbrev pub order_says : OrderAnswer → Answer Order
-order_says (Read x) = figures x
-order_says (Refused x) = refused (number_of x)
 
 -- ---- The trace
 

@@ -4,7 +4,6 @@ ghost use Rattle.order_file.specs.Order.{order_end};
 
 use crate::orders::TARIFF_OFFSET;
 use encoding::numbers::word_at;
-use terms::numbers::{greater, shorter};
 
 // The bytes that belong to the order: as many as its header states, at least 20, or all where there
 // are fewer.
@@ -14,6 +13,6 @@ pub fn order_end(bytes: &[u8]) -> usize
     if bytes.len() < TARIFF_OFFSET {
         return bytes.len();
     }
-    let stated = greater(TARIFF_OFFSET as u32, word_at(bytes, 16));
-    shorter(bytes.len(), stated as usize)
+    let stated = word_at(bytes, 16).max(TARIFF_OFFSET as u32);
+    bytes.len().min(stated as usize)
 }

@@ -8,5 +8,5 @@ pub mod spreads;
 mod traces;
 
 pub use ends::order_end;
-pub use orders::{LONGEST_ORDER, Order, OrderAnswer, read_order, trace_part, write_order};
+pub use orders::{LONGEST_ORDER, Order, read_order, trace_part, write_order};
 pub use traces::spread;

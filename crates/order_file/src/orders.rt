@@ -4,12 +4,11 @@ ghost use Rattle.std.proofs.lemmas.List.Edits.{sets};
 ghost use Rattle.terms.specs.Answer.{on_figures};
 ghost use Rattle.terms.specs.Lent.{filled};
 ghost use Rattle.terms.specs.RangeRules.{PeriodsRange};
-ghost use Rattle.encoding.specs.Fill.{fill_says};
+ghost use Rattle.terms.specs.Refusals.{says};
 ghost use Rattle.encoding.specs.Number.{bytes_of, bytes_of_all};
-ghost use Rattle.order_file.specs.Order.{order_says, order_words, read_order, tariff_in, trace_part, VeryOrder, write_order};
+ghost use Rattle.order_file.specs.Order.{order_words, read_order, tariff_in, trace_part, VeryOrder, write_order};
 
 use crate::traces::put_demands;
-use encoding::FillAnswer;
 use encoding::headers::placed;
 use encoding::numbers::{put_words, word_at};
 use terms::limits::TRACE_LIMIT;
@@ -33,37 +32,31 @@ pub struct Order {
     pub tariff: Tariff,
 }
 
-#[derive(Clone, Copy)]
-pub enum OrderAnswer {
-    Read(Order),
-    Refused(Refusal),
-}
-
 // Reads an order from any bytes: T and the tariff; or refusal 1, 2, 3, 4 or 5. Bytes that are read are
 // the very file that writing those figures gives.
-pub fn read_order(bytes: &[u8]) -> OrderAnswer
-    ensures result_value { order_says result ≡ read_order bytes.now }
-    ensures very_order { VeryOrder bytes.now (order_says result) }
+pub fn read_order(bytes: &[u8]) -> Result<Order, Refusal>
+    ensures result_value { says result ≡ read_order bytes.now }
+    ensures very_order { VeryOrder bytes.now (says result) }
 {
     if bytes.len() < TARIFF_OFFSET {
-        return OrderAnswer::Refused(Refusal::Short);
+        return Err(Refusal::Short);
     }
     if word_at(bytes, 0) != ORDER_KIND {
-        return OrderAnswer::Refused(Refusal::Foreign);
+        return Err(Refusal::Foreign);
     }
     let periods = word_at(bytes, 4);
     if !periods_in_range(periods as usize) {
-        return OrderAnswer::Refused(Refusal::Periods);
+        return Err(Refusal::Periods);
     }
     let length = TRACE_OFFSET + 2 * periods as usize;
     if !placed(bytes, 8, TARIFF_OFFSET, TRACE_OFFSET, length) {
-        return OrderAnswer::Refused(Refusal::Misplaced);
+        return Err(Refusal::Misplaced);
     }
     let tariff = tariff_in(bytes);
     if !tariff_in_range(tariff) {
-        return OrderAnswer::Refused(Refusal::Figure);
+        return Err(Refusal::Figure);
     }
-    OrderAnswer::Read(Order { periods, tariff })
+    Ok(Order { periods, tariff })
 }
 
 // The seven figures of the tariff.
@@ -89,31 +82,31 @@ pub fn trace_part(bytes: &[u8]) -> &[u8]
     ensures { result.now ≡ trace_part bytes.now }
 {
     match read_order(bytes) {
-        OrderAnswer::Read(_) => &bytes[TRACE_OFFSET..],
-        OrderAnswer::Refused(_) => &bytes[..0],
+        Ok(_) => &bytes[TRACE_OFFSET..],
+        Err(_) => &bytes[..0],
     }
 }
 
 // Writes an order of these demands into the front of the bytes and answers its length; or refusal
 // 3, 5 or 6 (bytes fewer than the file), and the bytes are as they were.
-pub fn write_order(tariff: Tariff, trace: &[u16], bytes: &mut [u8]) -> FillAnswer
-    ensures result_value { fill_says result ≡ on_figures length (write_order (length bytes.old) tariff trace.now) }
+pub fn write_order(tariff: Tariff, trace: &[u16], bytes: &mut [u8]) -> Result<usize, Refusal>
+    ensures result_value { says result ≡ on_figures length (write_order (length bytes.old) tariff trace.now) }
     ensures bytes_after { bytes.new ≡ filled (write_order (length bytes.old) tariff trace.now) bytes.old }
 {
     let periods = trace.len();
     if !periods_in_range(periods) {
-        return FillAnswer::Refused(Refusal::Periods);
+        return Err(Refusal::Periods);
     }
     if !tariff_in_range(tariff) {
-        return FillAnswer::Refused(Refusal::Figure);
+        return Err(Refusal::Figure);
     }
     let length = TRACE_OFFSET + 2 * periods;
     if bytes.len() < length {
-        return FillAnswer::Refused(Refusal::List);
+        return Err(Refusal::List);
     }
     put_header(bytes, periods as u32, tariff);
     put_demands(bytes, TRACE_OFFSET, trace);
-    FillAnswer::Filled(length)
+    Ok(length)
 }
 
 // Stores the numbers that come before the trace.

@@ -3,25 +3,22 @@
 ghost use Rattle.std.specs.Prelude.{◌≤◌, ◌≡◌, length};
 ghost use Rattle.terms.specs.Answer.{figures};
 ghost use Rattle.terms.specs.Lent.{filled};
-ghost use Rattle.order_file.specs.Order.{order_says};
+ghost use Rattle.terms.specs.Refusals.{says};
 ghost use Rattle.order_file.specs.Ordered.{SpreadsOrder};
 
-use crate::orders::{OrderAnswer, read_order, trace_part};
+use terms::Refusal;
+use crate::orders::{Order, read_order, trace_part};
 use crate::traces::spread;
-use encoding::FillAnswer;
 
 // Reads the order and spreads its trace's part into the demands; or refusal 1 to 6, and the demands
 // are as they were.
-pub fn spread_order(order: &[u8], demands: &mut [u16]) -> OrderAnswer
-    ensures { SpreadsOrder order.now demands.old demands.new (order_says result) }
+pub fn spread_order(order: &[u8], demands: &mut [u16]) -> Result<Order, Refusal>
+    ensures { SpreadsOrder order.now demands.old demands.new (says result) }
 {
-    let found = match read_order(order) {
-        OrderAnswer::Read(x) => x,
-        OrderAnswer::Refused(why) => return OrderAnswer::Refused(why),
-    };
+    let found = read_order(order)?;
     match spread(trace_part(order), demands) {
-        FillAnswer::Filled(_) => OrderAnswer::Read(found),
-        FillAnswer::Refused(why) => OrderAnswer::Refused(why),
+        Ok(_) => Ok(found),
+        Err(why) => Err(why),
     }
 }
 

@@ -4,11 +4,10 @@ ghost use Rattle.std.specs.Prelude.{◌+◌, ◌*◌, ◌≤◌, ◌≡◌, leng
 ghost use Rattle.std.proofs.lemmas.List.Edits.{sets};
 ghost use Rattle.terms.specs.Answer.{on_figures};
 ghost use Rattle.terms.specs.Lent.{filled};
-ghost use Rattle.encoding.specs.Fill.{fill_says};
+ghost use Rattle.terms.specs.Refusals.{says};
 ghost use Rattle.encoding.specs.Number.{bytes_of, bytes_of_all};
 ghost use Rattle.order_file.specs.Order.{demands_in, part_ok, spread_of};
 
-use encoding::FillAnswer;
 use encoding::numbers::{number_at, put_number};
 use terms::Refusal;
 use terms::limits::TRACE_LIMIT;
@@ -16,20 +15,20 @@ use terms::limits::TRACE_LIMIT;
 // Spreads the trace's part into the front of the list and answers how many demands there are; or
 // refusal 3 (a part of an odd length, of none or of more than 1,024 bytes) or 6 (a list with fewer
 // entries than demands), and the list is as it was.
-pub fn spread(part: &[u8], demands: &mut [u16]) -> FillAnswer
-    ensures result_value { fill_says result ≡ on_figures length (spread_of (length demands.old) part.now) }
+pub fn spread(part: &[u8], demands: &mut [u16]) -> Result<usize, Refusal>
+    ensures result_value { says result ≡ on_figures length (spread_of (length demands.old) part.now) }
     ensures demands_after { demands.new ≡ filled (spread_of (length demands.old) part.now) demands.old }
 {
     let length = part.len();
     if !part_in_range(length) {
-        return FillAnswer::Refused(Refusal::Periods);
+        return Err(Refusal::Periods);
     }
     let periods = length / 2;
     if demands.len() < periods {
-        return FillAnswer::Refused(Refusal::List);
+        return Err(Refusal::List);
     }
     load_demands(part, demands);
-    FillAnswer::Filled(periods)
+    Ok(periods)
 }
 
 // Whether a trace's part may have n bytes: an even number, 2 to 1,024.

@@ -3,14 +3,13 @@ ghost use Rattle.std.specs.Prelude.{◌≤◌, ◌≡◌, length};
 ghost use Rattle.std.proofs.lemmas.List.Edits.{sets};
 ghost use Rattle.terms.specs.Answer.{on_figures};
 ghost use Rattle.terms.specs.Lent.{filled};
-ghost use Rattle.encoding.specs.Fill.{fill_says};
+ghost use Rattle.terms.specs.Refusals.{says};
 ghost use Rattle.encoding.specs.NumberLaws.{Fit};
 ghost use Rattle.order_text.specs.Text.{answered_by, file_of, on_read, order_of, read, text_says, write_figures};
 ghost use Rattle.order_text.specs.FigureLaws.{Figures};
 
 use crate::faults::Fault;
 use crate::scan::{Step, read_figures};
-use encoding::FillAnswer;
 use order_file::write_order;
 use terms::Refusal;
 use terms::limits::TRACE_LIMIT;
@@ -56,12 +55,12 @@ fn write_figures(figures: &[u32], file: &mut [u8]) -> TextAnswer
 }
 
 // What the order file's writer answers, as an answer to the text.
-fn answer_of(fill: FillAnswer) -> TextAnswer
-    ensures { text_says result ≡ read (fill_says fill) }
+fn answer_of(fill: Result<usize, Refusal>) -> TextAnswer
+    ensures { text_says result ≡ read (says fill) }
 {
     match fill {
-        FillAnswer::Filled(length) => TextAnswer::Written(length),
-        FillAnswer::Refused(refusal) => TextAnswer::Refused(refusal),
+        Ok(length) => TextAnswer::Written(length),
+        Err(refusal) => TextAnswer::Refused(refusal),
     }
 }
 

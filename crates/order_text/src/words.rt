@@ -3,14 +3,13 @@ ghost use Rattle.std.specs.Prelude.{◌+◌, ◌≤◌, ◌≡◌, drop, length}
 ghost use Rattle.order_text.specs.Text.{word_around, word_length, word_start};
 
 use crate::bytes::{ends_figure, mark_length};
-use terms::numbers::shorter;
 
 // The part of the text's own bytes that is the word around a place: back to the mark or to the last
 // byte that ends a figure, and on to the next that does. Behind the text's end stands its last word.
 pub fn word_around(text: &[u8], place: usize) -> &[u8]
     ensures { result.now ≡ word_around text.now place }
 {
-    let start = word_start(text, shorter(place, text.len()));
+    let start = word_start(text, place.min(text.len()));
     let end = word_end(text, start);
     &text[start..end]
 }

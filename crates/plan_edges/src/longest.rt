@@ -1,7 +1,7 @@
 // A plan of 512 periods and 512 buckets, written, read, and written again from what was read.
 use crate::readings::read_into;
 use list_calls::{read_on, write_on};
-use plan_file::{LONGEST_PLAN, PlanAnswer, PlanFigures};
+use plan_file::{LONGEST_PLAN, PlanFigures};
 use samples::file_bytes::{LENT, LENT_BYTES, front, lent_front};
 use samples::lent_records::{ENTRIES, counted, filled};
 use terms::BucketRecord;
@@ -45,8 +45,8 @@ fn again(rt: &impl Print, bytes: [u8; LENT_BYTES]) {
     let list = lent.list;
     report::words(rt, b"read and written again:");
     match answer {
-        PlanAnswer::Read(plan) => written_again(rt, plan, list),
-        PlanAnswer::Refused(x) => report::refusal(rt, x),
+        Ok(plan) => written_again(rt, plan, list),
+        Err(x) => report::refusal(rt, x),
     }
 }
 

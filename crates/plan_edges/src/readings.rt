@@ -1,8 +1,9 @@
 // A plan read, in a line.
+use terms::Refusal;
+use plan_file::PlanFigures;
 use crate::entries;
 use cases::{field, file_of};
 use list_calls::read_on;
-use plan_file::PlanAnswer;
 use samples::file_bytes::front;
 use samples::lent_records::filled;
 
@@ -30,9 +31,9 @@ pub fn read_into(rt: &impl Print, file: &[u8], entries: usize) {
 }
 
 // The number of buckets; none on a refusal.
-fn buckets_of(answer: PlanAnswer) -> usize {
+fn buckets_of(answer: Result<PlanFigures, Refusal>) -> usize {
     match answer {
-        PlanAnswer::Read(plan) => plan.buckets as usize,
-        PlanAnswer::Refused(_) => 0,
+        Ok(plan) => plan.buckets as usize,
+        Err(_) => 0,
     }
 }

@@ -8,8 +8,6 @@ use Rattle.terms.specs.Limits.{cost_limit, trace_limit}
 use Rattle.terms.specs.Ranges.{periods_ok, record_ok}
 use Rattle.terms.specs.Records.{Cutting, record_of, run_length, run_rate, run_depth, total}
 use Rattle.plan_file.specs.declared.answers.PlanFigures.{PlanFigures}
-use Rattle.plan_file.specs.declared.answers.PlanAnswer.{PlanAnswer}
-use Rattle.plan_file.specs.declared.answers.PlanAnswer.TheVariants.{Read, Refused}
 use Rattle.encoding.specs.Number.{bytes_of, number_at, bytes_of_all, items_at}
 use Rattle.encoding.specs.Header.{placed_as}
 
@@ -108,11 +106,6 @@ recorded_figures = on_figures figures_in
 
 abbrev pub buckets_of : Answer Recorded → Answer Cutting
 buckets_of = on_figures (λ x. x.buckets)
-
--- Each case of the answer in document 01's values and numbers.
-abbrev pub plan_says : PlanAnswer → Answer PlanFigures
-plan_says (Read x) = figures x
-plan_says (Refused x) = refused (number_of x)
 
 -- ---- Writing
 

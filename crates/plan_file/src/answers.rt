@@ -10,15 +10,9 @@ pub struct PlanFigures {
     pub cost: u64,
 }
 
-#[derive(Clone, Copy)]
-pub enum PlanAnswer {
-    Read(PlanFigures),
-    Refused(Refusal),
-}
-
 // What reading a plan file answers, and at the front of an array the records of the plan read.
 #[derive(Clone, Copy)]
 pub struct PlanRecords {
-    pub answer: PlanAnswer,
+    pub answer: Result<PlanFigures, Refusal>,
     pub records: [BucketRecord; TRACE_LIMIT],
 }

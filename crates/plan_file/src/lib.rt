@@ -8,5 +8,5 @@ pub mod reading;
 mod records;
 pub mod writing;
 
-pub use answers::{PlanAnswer, PlanFigures, PlanRecords};
+pub use answers::{PlanFigures, PlanRecords};
 pub use layout::LONGEST_PLAN;

@@ -4,14 +4,13 @@ ghost use Rattle.std.proofs.lemmas.List.Edits.{sets};
 ghost use Rattle.terms.specs.Answer.{on_figures};
 ghost use Rattle.terms.specs.Lent.{filled};
 ghost use Rattle.terms.specs.Limits.{trace_limit};
-ghost use Rattle.encoding.specs.Fill.{fill_says};
+ghost use Rattle.terms.specs.Refusals.{says};
 ghost use Rattle.encoding.specs.Number.{bytes_of, bytes_of_all};
 ghost use Rattle.plan_file.specs.Plan.{plan_file, plan_words};
 
 use crate::answers::PlanFigures;
 use crate::layout::{BUCKETS_OFFSET, COST_OFFSET, PLAN_KIND, RECORD_BYTES, counts_in_range};
 use crate::records::{put_records, records_in_range};
-use encoding::FillAnswer;
 use encoding::numbers::{put_number, put_words};
 use terms::limits::{COST_LIMIT, TRACE_LIMIT};
 use terms::{BucketRecord, Refusal};
@@ -22,30 +21,30 @@ pub fn write_records(
     room: usize,
     records: [BucketRecord; TRACE_LIMIT],
     bytes: &mut [u8],
-) -> FillAnswer
-    ensures result_value { fill_says result ≡ on_figures length (plan_file room (length bytes.old) plan (take plan.buckets records)) }
+) -> Result<usize, Refusal>
+    ensures result_value { says result ≡ on_figures length (plan_file room (length bytes.old) plan (take plan.buckets records)) }
     ensures bytes_after { bytes.new ≡ filled (plan_file room (length bytes.old) plan (take plan.buckets records)) bytes.old }
 {
     if !counts_in_range(plan.periods, plan.buckets) {
-        return FillAnswer::Refused(Refusal::Periods);
+        return Err(Refusal::Periods);
     }
     if COST_LIMIT < plan.cost {
-        return FillAnswer::Refused(Refusal::Figure);
+        return Err(Refusal::Figure);
     }
     let buckets = plan.buckets as usize;
     if room < buckets {
-        return FillAnswer::Refused(Refusal::List);
+        return Err(Refusal::List);
     }
     if !records_in_range(plan.periods, buckets, records) {
-        return FillAnswer::Refused(Refusal::Figure);
+        return Err(Refusal::Figure);
     }
     let length = BUCKETS_OFFSET + RECORD_BYTES * buckets;
     if bytes.len() < length {
-        return FillAnswer::Refused(Refusal::List);
+        return Err(Refusal::List);
     }
     put_header(bytes, plan);
     put_records(bytes, BUCKETS_OFFSET, buckets, records);
-    FillAnswer::Filled(length)
+    Ok(length)
 }
 
 // Stores what comes before the records.

@@ -11,20 +11,18 @@ use Rattle.terms.specs.Lent.{filled}
 use Rattle.terms.specs.LentLaws.{filled-front}
 use Rattle.terms.specs.Limits.{trace_limit}
 use Rattle.terms.specs.Records.{Cutting}
-use Rattle.terms.specs.Refusals.{number_of}
+use Rattle.terms.specs.Refusals.{number_of, says}
 use Rattle.record_list.specs.Held.{blank, held}
 use Rattle.record_list.specs.HeldLaws.{held-records}
 use Rattle.series.specs.declared.answers.Plan.{Plan}
 use Rattle.series.specs.declared.answers.SeriesRecords.{SeriesRecords}
-use Rattle.series.specs.Series.{plan_of, series_of, series_says}
+use Rattle.series.specs.Series.{plan_of, series_of}
 use Rattle.order_file.specs.declared.orders.Order.{Order}
 use Rattle.order_file.specs.Ordered.{Ordered, ordered, spread_from, SpreadsOrder}
 use Rattle.order_file.specs.OrderedLaws.{ordered_any, ordered-count, ordered-found, ordered-refused, ordered-short, order-read, order_unread}
-use Rattle.planning.specs.declared.planned_orders.PlannedAnswer.{PlannedAnswer}
-use Rattle.planning.specs.declared.planned_orders.PlannedAnswer.TheVariants.{Refused}
 use Rattle.planning.specs.declared.planned_orders.PlannedOrder.{PlannedOrder}
 use Rattle.planning.specs.declared.planned_orders.PlannedRecords.{PlannedRecords}
-use Rattle.planning.specs.Planning.{Planned, planned, planned_runs, planned_figures, planned_says, cutting_of}
+use Rattle.planning.specs.Planning.{Planned, planned, planned_runs, planned_figures, cutting_of}
 use Rattle.planning.specs.PlannedLaws.{IsPlanned, is-planned}
 
 -- The plan found with what the order says.
@@ -41,7 +39,7 @@ length-zeros = length-replicate {A = ℕ} trace_limit 0
 -- What planning answers for a list of `space` demands and one of `room` records, with the demands of an order that is
 -- read and the records found.
 pub record PlansOrder (bs : List ℕ) (space room : ℕ) (r : PlannedRecords) : Type 0 where
-  pub answers : planned_says r.answer ≡ on_figures planned_figures (planned space room bs)
+  pub answers : says r.answer ≡ on_figures planned_figures (planned space room bs)
   pub spreads : r.demands ≡ filled (spread_from trace_limit bs) zeros
   pub holds : r.records ≡ held (cutting_of (planned space room bs))
 
@@ -98,8 +96,8 @@ module _ (bs : List ℕ) (space room : ℕ) (trace : List ℕ) (found : Answer O
       cutting-is (figures xs) = refl
       cutting-is (refused m) = refl
 
-      pub series-planned : (s : SeriesRecords) → (series_says s.answer ≡ plan_of o.tariff series) × (s.records ≡ held series)
-          → (answer : PlannedAnswer) → planned_says answer ≡ on_figures (with_order o) (series_says s.answer)
+      pub series-planned : (s : SeriesRecords) → (says s.answer ≡ plan_of o.tariff series) × (s.records ≡ held series)
+          → (answer : (Result PlannedOrder Refusal)) → says answer ≡ on_figures (with_order o) (says s.answer)
           → PlansOrder bs space room (record { answer = answer; demands = trace; records = s.records })
       series-planned s e answer h =
           record {
@@ -128,10 +126,10 @@ module _ {space room : ℕ} {bs : List ℕ} {x : Planned} (is : IsPlanned space 
   spread-inside = omega (arith, spread-count, length-take x.order.periods ds)
 
 module _ (bs : List ℕ) (space room : ℕ) (r : PlannedRecords) (p : PlansOrder bs space room r) where
-  pub plan-refused : (n : ℕ) → planned_says r.answer ≡ refused n → planned space room bs ≡ refused n
+  pub plan-refused : (n : ℕ) → says r.answer ≡ refused n → planned space room bs ≡ refused n
   plan-refused n f = on_refused planned_figures (planned space room bs) (sym p.answers ∙ f)
 
-  module _ (y : PlannedOrder) (f : planned_says r.answer ≡ figures y) where
+  module _ (y : PlannedOrder) (f : says r.answer ≡ figures y) where
     abbrev found_plan : (x : Planned) × (planned space room bs ≡ figures x) × (planned_figures x ≡ y)
     found_plan = on_figures_lem planned_figures (planned space room bs) (sym p.answers ∙ f)
 

@@ -8,8 +8,6 @@ use Rattle.series.specs.Series.{true_cost_of, series_of}
 use Rattle.order_file.specs.declared.orders.Order.{Order}
 use Rattle.order_file.specs.Ordered.{ordered}
 use Rattle.planning.specs.declared.planned_orders.PlannedOrder.{PlannedOrder}
-use Rattle.planning.specs.declared.planned_orders.PlannedAnswer.{PlannedAnswer}
-use Rattle.planning.specs.declared.planned_orders.PlannedAnswer.TheVariants.{Found, Refused}
 
 -- What the calls up to planning give.
 pub record Planned : Type 0 where
@@ -26,11 +24,6 @@ abbrev pub planned : ℕ → ℕ → List ℕ → Answer Planned
 planned space room bs = and_then (ordered space bs) (λ x. planned_runs x.order x.demands room)
 
 -- ---- What is answered
-
--- Each case of the answer in document 01's values and numbers.
-abbrev pub planned_says : PlannedAnswer → Answer PlannedOrder
-planned_says (Found x) = figures x
-planned_says (Refused x) = refused (number_of x)
 
 -- The figures that are answered.
 abbrev pub planned_figures : Planned → PlannedOrder

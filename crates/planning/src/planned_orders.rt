@@ -1,17 +1,16 @@
 // The calls up to planning. Public only for the crates above.
 ghost use Rattle.std.specs.Prelude.{◌≡◌};
 ghost use Rattle.terms.specs.Answer.{on_figures};
+ghost use Rattle.terms.specs.Refusals.{says};
 ghost use Rattle.record_list.specs.Held.{blank};
-ghost use Rattle.series.specs.Series.{series_says};
 ghost use Rattle.planning.specs.declared.planned_orders.PlannedAnswer.TheVariants.{Refused};
-ghost use Rattle.planning.specs.Planning.{planned_says};
 ghost use Rattle.planning.specs.CallLaws.{PlansOrder, with_order};
 
 use order_file::spreads::spread_order;
-use order_file::{Order, OrderAnswer};
+use order_file::Order;
 use record_list::arrays::blank_records;
 use series::planner::plan_series;
-use series::{Plan, SeriesAnswer};
+use series::Plan;
 use terms::limits::TRACE_LIMIT;
 use terms::{BucketRecord, Refusal};
 
@@ -22,16 +21,10 @@ pub struct PlannedOrder {
     pub plan: Plan,
 }
 
-#[derive(Clone, Copy)]
-pub enum PlannedAnswer {
-    Found(PlannedOrder),
-    Refused(Refusal),
-}
-
 // The answer with the demands of an order that is read and the records of the plan found.
 #[derive(Clone, Copy)]
 pub struct PlannedRecords {
-    pub answer: PlannedAnswer,
+    pub answer: Result<PlannedOrder, Refusal>,
     pub demands: [u16; TRACE_LIMIT],
     pub records: [BucketRecord; TRACE_LIMIT],
 }
@@ -43,8 +36,8 @@ pub fn plan_order(order: &[u8], space: usize, room: usize) -> PlannedRecords
 {
     let mut demands = [0u16; TRACE_LIMIT];
     let found = match spread_order(order, &mut demands) {
-        OrderAnswer::Read(x) => x,
-        OrderAnswer::Refused(why) => return refused(why, demands),
+        Ok(x) => x,
+        Err(why) => return refused(why, demands),
     };
     let periods = found.periods as usize;
     if space < periods {
@@ -68,18 +61,18 @@ fn refused(why: Refusal, demands: [u16; TRACE_LIMIT]) -> PlannedRecords
 {
     let records = blank_records();
     PlannedRecords {
-        answer: PlannedAnswer::Refused(why),
+        answer: Err(why),
         demands,
         records,
     }
 }
 
 // The plan found with what the order says, or the refusal.
-fn with_order(order: Order, answer: SeriesAnswer) -> PlannedAnswer
-    ensures { planned_says result ≡ on_figures (with_order order) (series_says answer) }
+fn with_order(order: Order, answer: Result<Plan, Refusal>) -> Result<PlannedOrder, Refusal>
+    ensures { says result ≡ on_figures (with_order order) (says answer) }
 {
     match answer {
-        SeriesAnswer::Found(plan) => PlannedAnswer::Found(PlannedOrder { order, plan }),
-        SeriesAnswer::Refused(why) => PlannedAnswer::Refused(why),
+        Ok(plan) => Ok(PlannedOrder { order, plan }),
+        Err(why) => Err(why),
     }
 }

@@ -16,14 +16,7 @@ use Rattle.meter.specs.MeterLaws.{Sound}
 use Rattle.record_list.specs.Held.{no_record}
 use Rattle.record_list.specs.PartLaws.{Begins, first_begins, next_begins, rest, rest_next, rest_none}
 use Rattle.recording.specs.declared.metering.MeterTotals.{MeterTotals}
-use Rattle.recording.specs.declared.metering.TotalsAnswer.{TotalsAnswer}
-use Rattle.recording.specs.declared.metering.TotalsAnswer.TheVariants.{Metered, Refused}
 use Rattle.recording.specs.Recording.{meters_of, totals_of}
-
--- Each case of the answer in document 01's values and numbers.
-abbrev pub totals_says : TotalsAnswer → Answer MeterTotals
-totals_says (Metered x) = figures x
-totals_says (Refused x) = refused (number_of x)
 
 abbrev pub none : MeterTotals
 none = record { sent = 0; over = 0; lost = 0; held = 0 }

@@ -12,8 +12,6 @@ use Rattle.plan_file.specs.declared.answers.PlanFigures.{PlanFigures}
 use Rattle.plan_file.specs.Plan.{Recorded, read_plan}
 use Rattle.recording.specs.declared.metering.MeterTotals.{MeterTotals}
 use Rattle.recording.specs.declared.recorded.Booking.{Booking}
-use Rattle.recording.specs.declared.recorded.BookingAnswer.{BookingAnswer}
-use Rattle.recording.specs.declared.recorded.BookingAnswer.TheVariants.{Booked, Refused}
 
 -- What recording a plan gives: the bytes written, what is read back from them, and the meters of its runs.
 pub record Recording : Type 0 where
@@ -54,7 +52,3 @@ booking_of x =
       meters = totals_of x.meters;
     }
 
--- Each case of the answer in document 01's values and numbers.
-abbrev pub booking_says : BookingAnswer → Answer Booking
-booking_says (Booked x) = figures x
-booking_says (Refused x) = refused (number_of x)

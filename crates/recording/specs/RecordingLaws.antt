@@ -12,6 +12,7 @@ use Rattle.terms.specs.RangeLaws.{factor_range}
 use Rattle.terms.specs.RangeRules.{FactorRange, FreshRange, RecordRange}
 use Rattle.terms.specs.Ranges.{factor_ok}
 use Rattle.terms.specs.Records.{Cutting, run_length, total}
+use Rattle.terms.specs.Refusals.{says}
 use Rattle.bucket.specs.Laws.{demands-take, demands-drop}
 use Rattle.bucket.specs.Trace.{Demands}
 use Rattle.meter.specs.declared.meters.Meter.{Meter}
@@ -26,7 +27,7 @@ use Rattle.record_list.specs.HeldLaws.{held-records}
 use Rattle.recording.specs.declared.recorded.Booking.{Booking}
 use Rattle.recording.specs.declared.recorded.BookingRecords.{BookingRecords}
 use Rattle.recording.specs.declared.metering.MeterTotals.{MeterTotals}
-use Rattle.recording.specs.Recording.{Recording, written, read_back, meters_of, totals_of, recording, booking_of, booking_says}
+use Rattle.recording.specs.Recording.{Recording, written, read_back, meters_of, totals_of, recording, booking_of}
 
 -- The booking with what the meters ended with.
 abbrev pub with_meters : PlanFigures → ℕ → MeterTotals → Booking
@@ -35,13 +36,13 @@ with_meters x n t = record { plan = x; length = n; meters = t }
 -- What recording a plan answers that is read back into a list of `space` records, what the bytes then hold, after a
 -- refusal what they held, and the records read back; `file` is what writing it gives.
 pub record RecordsPlan (x : PlanFigures) (file : Answer (List ℕ)) (f : Factor) (ds : List ℕ) (bytes : List ℕ) (space : ℕ) (bytes' : List ℕ) (r : BookingRecords) : Type 0 where
-  pub answers : booking_says r.answer ≡ on_figures booking_of (recording space x file f ds)
+  pub answers : says r.answer ≡ on_figures booking_of (recording space x file f ds)
   pub writes : bytes' ≡ filled (on_figures (λ y. y.file) (recording space x file f ds)) bytes
   pub holds : r.records ≡ held (on_figures (λ y. y.plan.buckets) (recording space x file f ds))
 
 -- A refusal, with no records.
 abbrev pub Refuses : ℕ → BookingRecords → Type 0
-Refuses n r = (booking_says r.answer ≡ refused n) × (r.records ≡ blank)
+Refuses n r = (says r.answer ≡ refused n) × (r.records ≡ blank)
 
 -- The meters of records in their ranges, opened with a factor in its own, refuse nothing.
 meters_taken : (f : Factor) → FactorRange f → (ds : List ℕ) → Demands ds → length ds ≤ trace_limit → (xs : Cutting)
@@ -71,7 +72,7 @@ module _ (x : PlanFigures) (f : Factor) (ds : List ℕ) (room : ℕ) (records : 
 
   -- What recording gives is what is promised of what it has filled.
   records_as : (a : Answer Recording) → recording space x writing f ds ≡ a → (bytes' : List ℕ) → bytes' ≡ filled (on_figures (λ y. y.file) a) bytes
-      → (r : BookingRecords) → booking_says r.answer ≡ on_figures booking_of a → r.records ≡ held (on_figures (λ y. y.plan.buckets) a) → Records bytes' r
+      → (r : BookingRecords) → says r.answer ≡ on_figures booking_of a → r.records ≡ held (on_figures (λ y. y.plan.buckets) a) → Records bytes' r
   records_as a e bytes' b r h k =
       record {
         answers = h ∙ ap (on_figures booking_of) (sym e);
@@ -161,7 +162,7 @@ module _ (x : PlanFigures) (f : Factor) (ds : List ℕ) (room : ℕ) (records : 
               answer-is = ap₂ (λ (z : PlanFigures) (m : ℕ). figures (with_meters z m (totals_of metered.0))) y_is (sym (front-count writing bytes bytes' n e b))
 
               pub plan-metered : (t : Answer MeterTotals) → t ≡ on_figures totals_of (meters_of f ds (take y.buckets back))
-                  → (r : BookingRecords) → booking_says r.answer ≡ on_figures (with_meters y n) t → r.records ≡ back → Records bytes' r
+                  → (r : BookingRecords) → says r.answer ≡ on_figures (with_meters y n) t → r.records ≡ back → Records bytes' r
               plan-metered t m r u v =
                   let totals = m ∙ ap (λ (ys : Cutting). on_figures totals_of (meters_of f ds ys)) back-records ∙ ap (on_figures totals_of) metered.1 in
                   records_as (figures recorded) recorded_so bytes' (b ∙ ap (λ (a : Answer (List ℕ)). filled a bytes) written-front) r

@@ -5,4 +5,4 @@ mod metering;
 pub mod recorded;
 
 pub use metering::MeterTotals;
-pub use recorded::{Booking, BookingAnswer, BookingRecords};
+pub use recorded::{Booking, BookingRecords};

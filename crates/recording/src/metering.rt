@@ -4,12 +4,13 @@ ghost use Rattle.std.specs.Prelude.{◌≡◌, length, take};
 ghost use Rattle.terms.specs.Answer.{on_figures};
 ghost use Rattle.terms.specs.Limits.{trace_limit};
 ghost use Rattle.terms.specs.Records.{run_length, total};
+ghost use Rattle.terms.specs.Refusals.{says};
 ghost use Rattle.meter.specs.MeterLaws.{Sound};
 ghost use Rattle.plan_file.specs.PlanRules.{CountsRange};
 ghost use Rattle.recording.specs.Recording.{meters_of, totals_of};
-ghost use Rattle.recording.specs.MeteringLaws.{added, Few, totals_says};
+ghost use Rattle.recording.specs.MeteringLaws.{added, Few};
 
-use meter::{Meter, MeterAnswer, meter_run};
+use meter::{Meter, meter_run};
 use terms::limits::TRACE_LIMIT;
 use terms::{BucketRecord, Factor, Refusal};
 
@@ -39,13 +40,6 @@ impl MeterTotals {
     }
 }
 
-// What metering a plan gives: the totals, or a meter's refusal.
-#[derive(Clone, Copy)]
-pub enum TotalsAnswer {
-    Metered(MeterTotals),
-    Refused(Refusal),
-}
-
 // Opens a meter on each recorded bucket with the factor and offers it its run of the trace, first
 // period to last. The records stand at the front of the array.
 pub fn meter_runs(
@@ -53,10 +47,10 @@ pub fn meter_runs(
     factor: Factor,
     buckets: usize,
     records: [BucketRecord; TRACE_LIMIT],
-) -> TotalsAnswer
+) -> Result<MeterTotals, Refusal>
     requires counts_range { CountsRange (length trace.now) buckets }
     requires records_value { total run_length (take buckets records) ≡ length trace.now }
-    ensures { totals_says result ≡ on_figures totals_of (meters_of factor trace.now (take buckets records)) }
+    ensures { says result ≡ on_figures totals_of (meters_of factor trace.now (take buckets records)) }
 {
     let mut totals = MeterTotals {
         sent: 0,
@@ -69,13 +63,10 @@ pub fn meter_runs(
     while i < buckets {
         let x = records[i];
         let end = start + x.periods as usize;
-        let meter = match meter_run(x.bucket, factor, &trace[start..end]) {
-            MeterAnswer::Opened(m) => m,
-            MeterAnswer::Refused(why) => return TotalsAnswer::Refused(why),
-        };
+        let meter = meter_run(x.bucket, factor, &trace[start..end])?;
         totals = totals.with(meter);
         start = end;
         i += 1;
     }
-    TotalsAnswer::Metered(totals)
+    Ok(totals)
 }

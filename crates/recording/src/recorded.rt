@@ -2,17 +2,14 @@
 // which shows what is required.
 ghost use Rattle.std.specs.Prelude.{◌≡◌, length, take};
 ghost use Rattle.terms.specs.Answer.{on_figures};
-ghost use Rattle.terms.specs.Refusals.{number_of};
+ghost use Rattle.terms.specs.Refusals.{number_of, says};
 ghost use Rattle.plan_file.specs.Plan.{plan_file};
-ghost use Rattle.recording.specs.Recording.{booking_says};
 ghost use Rattle.recording.specs.RecordingLaws.{RecordsPlan, Refuses, with_meters};
-ghost use Rattle.recording.specs.MeteringLaws.{totals_says};
 
-use crate::metering::{MeterTotals, TotalsAnswer, meter_runs};
-use encoding::FillAnswer;
+use crate::metering::{MeterTotals, meter_runs};
 use plan_file::reading::read_records;
 use plan_file::writing::write_records;
-use plan_file::{PlanAnswer, PlanFigures};
+use plan_file::PlanFigures;
 use record_list::arrays::blank_records;
 use terms::limits::TRACE_LIMIT;
 use terms::{BucketRecord, Factor, Refusal, factor_in_range};
@@ -26,16 +23,10 @@ pub struct Booking {
     pub meters: MeterTotals,
 }
 
-#[derive(Clone, Copy)]
-pub enum BookingAnswer {
-    Booked(Booking),
-    Refused(Refusal),
-}
-
 // What recording a plan answers, and at the front of an array the records read back.
 #[derive(Clone, Copy)]
 pub struct BookingRecords {
-    pub answer: BookingAnswer,
+    pub answer: Result<Booking, Refusal>,
     pub records: [BucketRecord; TRACE_LIMIT],
 }
 
@@ -63,14 +54,14 @@ pub fn record_plan(
         return refused(Refusal::List);
     }
     let length = match write_records(plan, room, records, bytes) {
-        FillAnswer::Filled(n) => n,
-        FillAnswer::Refused(why) => return refused(why),
+        Ok(n) => n,
+        Err(why) => return refused(why),
     };
     let recorded = read_records(&bytes[..length], space);
     let answer = recorded.answer;
     let back = recorded.records;
     match answer {
-        PlanAnswer::Read(found) => {
+        Ok(found) => {
             let meters = meter_runs(trace, factor, found.buckets as usize, back);
             let answer = with_meters(found, length, meters);
             BookingRecords {
@@ -78,7 +69,7 @@ pub fn record_plan(
                 records: back,
             }
         }
-        PlanAnswer::Refused(why) => refused(why),
+        Err(why) => refused(why),
     }
 }
 
@@ -88,21 +79,21 @@ fn refused(why: Refusal) -> BookingRecords
 {
     let records = blank_records();
     BookingRecords {
-        answer: BookingAnswer::Refused(why),
+        answer: Err(why),
         records,
     }
 }
 
 // The booking with what the meters ended with, or a meter's refusal.
-fn with_meters(plan: PlanFigures, length: usize, answer: TotalsAnswer) -> BookingAnswer
-    ensures { booking_says result ≡ on_figures (with_meters plan length) (totals_says answer) }
+fn with_meters(plan: PlanFigures, length: usize, answer: Result<MeterTotals, Refusal>) -> Result<Booking, Refusal>
+    ensures { says result ≡ on_figures (with_meters plan length) (says answer) }
 {
     match answer {
-        TotalsAnswer::Metered(meters) => BookingAnswer::Booked(Booking {
+        Ok(meters) => Ok(Booking {
             plan,
             length,
             meters,
         }),
-        TotalsAnswer::Refused(why) => BookingAnswer::Refused(why),
+        Err(why) => Err(why),
     }
 }

@@ -1,34 +1,33 @@
 // The answers of the calls on files; each leaves its line open.
+use plan_file::PlanFigures;
+use order_file::Order;
 use crate::{figure, refusal};
-use encoding::FillAnswer;
-use order_file::OrderAnswer;
-use plan_file::PlanAnswer;
-use terms::Tariff;
+use terms::{Refusal, Tariff};
 
 // How many entries or bytes were filled, or the refusal.
-pub fn fill(rt: &impl Print, a: FillAnswer) {
+pub fn fill(rt: &impl Print, a: Result<usize, Refusal>) {
     match a {
-        FillAnswer::Filled(n) => figure(rt, b" filled", n as u64),
-        FillAnswer::Refused(x) => refusal(rt, x),
+        Ok(n) => figure(rt, b" filled", n as u64),
+        Err(x) => refusal(rt, x),
     }
 }
 
 // How many entries or bytes were filled; none on a refusal.
-pub fn filled_of(a: FillAnswer) -> usize {
+pub fn filled_of(a: Result<usize, Refusal>) -> usize {
     match a {
-        FillAnswer::Filled(n) => n,
-        FillAnswer::Refused(_) => 0,
+        Ok(n) => n,
+        Err(_) => 0,
     }
 }
 
 // An order's number of periods and its tariff, or the refusal.
-pub fn order(rt: &impl Print, a: OrderAnswer) {
+pub fn order(rt: &impl Print, a: Result<Order, Refusal>) {
     match a {
-        OrderAnswer::Read(x) => {
+        Ok(x) => {
             figure(rt, b" periods", x.periods as u64);
             tariff(rt, x.tariff);
         }
-        OrderAnswer::Refused(x) => refusal(rt, x),
+        Err(x) => refusal(rt, x),
     }
 }
 
@@ -44,13 +43,13 @@ pub fn tariff(rt: &impl Print, t: Tariff) {
 }
 
 // A plan's number of periods, its number of buckets and its cost, or the refusal.
-pub fn plan(rt: &impl Print, a: PlanAnswer) {
+pub fn plan(rt: &impl Print, a: Result<PlanFigures, Refusal>) {
     match a {
-        PlanAnswer::Read(x) => {
+        Ok(x) => {
             figure(rt, b" periods", x.periods as u64);
             figure(rt, b" buckets", x.buckets as u64);
             figure(rt, b" cost", x.cost);
         }
-        PlanAnswer::Refused(x) => refusal(rt, x),
+        Err(x) => refusal(rt, x),
     }
 }

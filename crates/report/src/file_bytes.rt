@@ -1,8 +1,8 @@
 // The bytes of files: in hexadecimal, and as lent bytes that a call has filled.
+use terms::Refusal;
 use crate::file_answers::{fill, filled_of};
 use crate::lent_lists::kept;
 use crate::{end_line, number, words};
-use encoding::FillAnswer;
 use samples::file_bytes::{LENT_BYTES, checksum, is_lent};
 
 // All bytes, 16 to a line.
@@ -25,7 +25,7 @@ fn hex(rt: &impl Print, byte: u8) {
 
 // How many bytes were filled and their checksum, or the refusal; then whether every byte after
 // those filled is as it was lent.
-pub fn written(rt: &impl Print, answer: FillAnswer, bytes: &[u8; LENT_BYTES]) {
+pub fn written(rt: &impl Print, answer: Result<usize, Refusal>, bytes: &[u8; LENT_BYTES]) {
     let length = filled_of(answer);
     fill(rt, answer);
     if 0 < length {

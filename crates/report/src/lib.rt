@@ -6,15 +6,14 @@ mod file_answers;
 mod file_bytes;
 mod lent_lists;
 
-use bucket::TrialAnswer;
-use causes::{Cause, ExplainAnswer};
-use depth::DepthAnswer;
+use single::Priced;
+use series::Plan;
+use bucket::TrialFigures;
+use causes::{Cause, Explained};
 pub use file_answers::{fill, filled_of, order, plan, tariff};
 pub use file_bytes::{hex_lines, written};
 pub use lent_lists::{kept, list};
-use series::SeriesAnswer;
-use single::SingleAnswer;
-use terms::{BucketRecord, Refusal};
+use terms::{BucketRecord, Depth, Refusal};
 use text::figures::magnitude;
 
 // Words as they stand.
@@ -59,19 +58,19 @@ pub fn agreement(rt: &impl Print, cases: u32, agreed: u32) {
 // The word refused and the number.
 pub fn refusal(rt: &impl Print, x: Refusal) {
     words(rt, b" refused");
-    number(rt, terms::refusal_number(x) as u64);
+    number(rt, u32::from(x) as u64);
 }
 
 // Spare and discards, or the refusal.
-pub fn trial(rt: &impl Print, a: TrialAnswer) {
+pub fn trial(rt: &impl Print, a: Result<TrialFigures, Refusal>) {
     match a {
-        TrialAnswer::Found(t) => {
+        Ok(t) => {
             words(rt, b" spare");
             signed(rt, t.spare);
             words(rt, b" over");
             number(rt, t.over as u64);
         }
-        TrialAnswer::Refused(x) => refusal(rt, x),
+        Err(x) => refusal(rt, x),
     }
     end_line(rt);
 }
@@ -85,26 +84,26 @@ pub fn totals(rt: &impl Print, sent: u64, over: u64, lost: u64, held: u64) {
 }
 
 // The depth, or the refusal.
-pub fn depth(rt: &impl Print, a: DepthAnswer) {
+pub fn depth(rt: &impl Print, a: Result<Depth, Refusal>) {
     match a {
-        DepthAnswer::Found(b) => {
+        Ok(b) => {
             words(rt, b" depth");
             number(rt, b.0 as u64);
         }
-        DepthAnswer::Refused(x) => refusal(rt, x),
+        Err(x) => refusal(rt, x),
     }
     end_line(rt);
 }
 
 // The depth and its cause, or the refusal.
-pub fn explained(rt: &impl Print, a: ExplainAnswer) {
+pub fn explained(rt: &impl Print, a: Result<Explained, Refusal>) {
     match a {
-        ExplainAnswer::Found(x) => {
+        Ok(x) => {
             let set_by = x.cause;
             figure(rt, b" depth", x.depth.0 as u64);
             cause(rt, set_by);
         }
-        ExplainAnswer::Refused(x) => refusal(rt, x),
+        Err(x) => refusal(rt, x),
     }
     end_line(rt);
 }
@@ -121,9 +120,9 @@ fn cause(rt: &impl Print, x: Cause) {
 }
 
 // The bucket and its cost, or the refusal.
-pub fn single(rt: &impl Print, a: SingleAnswer) {
+pub fn single(rt: &impl Print, a: Result<Priced, Refusal>) {
     match a {
-        SingleAnswer::Found(x) => {
+        Ok(x) => {
             words(rt, b" rate");
             number(rt, x.bucket.rate.0 as u64);
             words(rt, b" depth");
@@ -131,21 +130,21 @@ pub fn single(rt: &impl Print, a: SingleAnswer) {
             words(rt, b" cost");
             number(rt, x.cost);
         }
-        SingleAnswer::Refused(x) => refusal(rt, x),
+        Err(x) => refusal(rt, x),
     }
     end_line(rt);
 }
 
 // A plan's number of buckets and its cost, or the refusal; the line goes on.
-pub fn series(rt: &impl Print, a: SeriesAnswer) {
+pub fn series(rt: &impl Print, a: Result<Plan, Refusal>) {
     match a {
-        SeriesAnswer::Found(plan) => {
+        Ok(plan) => {
             words(rt, b" buckets");
             number(rt, plan.buckets as u64);
             words(rt, b" cost");
             number(rt, plan.cost);
         }
-        SeriesAnswer::Refused(x) => refusal(rt, x),
+        Err(x) => refusal(rt, x),
     }
 }
 

@@ -2,7 +2,6 @@
 ghost use Rattle.std.specs.Prelude.{◌≤◌};
 
 use crate::small::Small;
-use bucket::TrialAnswer;
 use terms::{Bucket, Depth, Factor, Rate};
 
 // The cheapest bucket so far, if there is one.
@@ -59,8 +58,8 @@ fn carries(trace: &[u16], factor: Factor, rate: u8, depth: u8) -> bool {
         depth: Depth(depth as u32),
     };
     match bucket::trial(bucket, factor, trace) {
-        TrialAnswer::Found(t) => t.over == 0,
-        TrialAnswer::Refused(_) => false,
+        Ok(t) => t.over == 0,
+        Err(_) => false,
     }
 }
 

@@ -10,19 +10,18 @@ use Rattle.terms.specs.RangeLaws.{periods_range}
 use Rattle.terms.specs.Ranges.{periods_ok, tariff_ok}
 use Rattle.terms.specs.Records.{Cutting}
 use Rattle.terms.specs.declared.refusal.Refusal.{Refusal}
-use Rattle.terms.specs.Refusals.{number_of}
+use Rattle.terms.specs.Refusals.{number_of, says}
 use Rattle.record_list.specs.Held.{blank, held, counted}
 use Rattle.record_list.specs.HeldLaws.{counted_on}
-use Rattle.series.specs.declared.answers.SeriesAnswer.TheVariants.{Refused}
 use Rattle.series.specs.declared.answers.SeriesRecords.{SeriesRecords}
 use Rattle.series.specs.declared.answers.Plan.{Plan}
 use Rattle.series.specs.OutlineLaws.{carried-count}
-use Rattle.series.specs.Series.{cheapest_cut, plan_of, series_of, series_says}
+use Rattle.series.specs.Series.{cheapest_cut, plan_of, series_of}
 use Rattle.series.specs.SeriesLaws.{series-cheapest, series-room}
 
 -- A refusal is answered, and there are no records.
 module _ (t : Tariff) (a : Answer Cutting) (why : Refusal) (r : SeriesRecords) (e : r ≡ record { answer = Refused why; records = blank }) where
-  pub refusal : a ≡ refused (number_of why) → (series_says r.answer ≡ plan_of t a) × (r.records ≡ held a)
+  pub refusal : a ≡ refused (number_of why) → (says r.answer ≡ plan_of t a) × (r.records ≡ held a)
   refusal f = rw (e, f) (refl, refl)
 
 module _ (t : Tariff) (room : ℕ) (ds : List ℕ) where

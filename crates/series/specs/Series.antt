@@ -13,8 +13,6 @@ use Rattle.single.specs.declared.costs.Priced.{Priced}
 use Rattle.single.specs.Cost.{cost_of}
 use Rattle.single.specs.Single.{Serves, cheapest_of}
 use Rattle.series.specs.declared.answers.Plan.{Plan}
-use Rattle.series.specs.declared.answers.SeriesAnswer.{SeriesAnswer}
-use Rattle.series.specs.declared.answers.SeriesAnswer.TheVariants.{Found, Refused}
 use Rattle.series.specs.Cutting.{Cuts, Choices, wins, best}
 
 -- A run is billed for its exact length, with its own fee.
@@ -68,7 +66,3 @@ series_of t room ds = weigh (periods_ok (length ds)) 3 (weigh (tariff_ok t) 5 (w
 abbrev pub plan_of : Tariff → Answer Cutting → Answer Plan
 plan_of t = on_figures (λ xs. record { buckets = length xs; cost = true_cost_of t xs })
 
--- Each case of the answer in document 01's values and numbers.
-abbrev pub series_says : SeriesAnswer → Answer Plan
-series_says (Found x) = figures x
-series_says (Refused x) = refused (number_of x)

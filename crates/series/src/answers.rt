@@ -9,16 +9,9 @@ pub struct Plan {
     pub cost: u64,
 }
 
-// What the series call answers: the plan's figures, or the refusal.
-#[derive(Clone, Copy)]
-pub enum SeriesAnswer {
-    Found(Plan),
-    Refused(Refusal),
-}
-
 // The answer with the records of the plan found.
 #[derive(Clone, Copy)]
 pub struct SeriesRecords {
-    pub answer: SeriesAnswer,
+    pub answer: Result<Plan, Refusal>,
     pub records: [BucketRecord; TRACE_LIMIT],
 }

@@ -6,4 +6,4 @@ pub mod planner;
 mod records;
 mod suffixes;
 
-pub use answers::{Plan, SeriesAnswer, SeriesRecords};
+pub use answers::{Plan, SeriesRecords};

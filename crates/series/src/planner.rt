@@ -1,11 +1,12 @@
 // The series planned: the plan's figures and its records. Public only for the crates above.
 ghost use Rattle.std.specs.Prelude.{◌≡◌, length};
 ghost use Rattle.terms.specs.RangeRules.{PeriodsRange, TariffRange};
+ghost use Rattle.terms.specs.Refusals.{says};
 ghost use Rattle.record_list.specs.Held.{blank, held};
 ghost use Rattle.series.specs.declared.answers.SeriesAnswer.TheVariants.{Refused};
-ghost use Rattle.series.specs.Series.{cheapest_cut, plan_of, series_of, series_says};
+ghost use Rattle.series.specs.Series.{cheapest_cut, plan_of, series_of};
 
-use crate::answers::{Plan, SeriesAnswer, SeriesRecords};
+use crate::answers::{Plan, SeriesRecords};
 use crate::records::record_runs;
 use crate::suffixes::{ENTRIES, cut_suffixes};
 use first_runs::outlines::UNPRICED;
@@ -14,7 +15,7 @@ use terms::{Refusal, Tariff, periods_in_range, tariff_in_range};
 
 // The series call for a list of `room` records.
 pub fn plan_series(trace: &[u16], tariff: Tariff, room: usize) -> SeriesRecords
-    ensures answer_value { series_says result.answer ≡ plan_of tariff (series_of tariff room trace.now) }
+    ensures answer_value { says result.answer ≡ plan_of tariff (series_of tariff room trace.now) }
     ensures records_value { result.records ≡ held (series_of tariff room trace.now) }
 {
     let periods = trace.len();
@@ -36,7 +37,7 @@ fn refused(why: Refusal) -> SeriesRecords
 {
     let records = blank_records();
     SeriesRecords {
-        answer: SeriesAnswer::Refused(why),
+        answer: Err(why),
         records,
     }
 }
@@ -45,7 +46,7 @@ fn refused(why: Refusal) -> SeriesRecords
 fn cheapest(trace: &[u16], tariff: Tariff) -> SeriesRecords
     requires periods_range { PeriodsRange (length trace.now) }
     requires tariff_range { TariffRange tariff }
-    ensures answer_value { series_says result.answer ≡ plan_of tariff (cheapest_cut tariff trace.now) }
+    ensures answer_value { says result.answer ≡ plan_of tariff (cheapest_cut tariff trace.now) }
     ensures records_value { result.records ≡ held (cheapest_cut tariff trace.now) }
 {
     let mut costs = [0u64; ENTRIES];
@@ -59,7 +60,7 @@ fn cheapest(trace: &[u16], tariff: Tariff) -> SeriesRecords
     }
     let records = record_runs(trace, tariff, &firsts);
     SeriesRecords {
-        answer: SeriesAnswer::Found(Plan { buckets, cost }),
+        answer: Ok(Plan { buckets, cost }),
         records,
     }
 }

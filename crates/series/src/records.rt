@@ -8,7 +8,7 @@ ghost use Rattle.series.specs.RecordLaws.{Firsts, HasBucket};
 ghost use Rattle.series.specs.Series.{cheapest_cut, run_record};
 
 use record_list::arrays::blank_records;
-use single::{SingleAnswer, single};
+use single::single;
 use terms::limits::TRACE_LIMIT;
 use terms::{Bucket, BucketRecord, Depth, Rate, Tariff};
 
@@ -41,8 +41,8 @@ fn bucket_of(run: &[u16], tariff: Tariff) -> Bucket
     ensures { run_record tariff run.now ≡ figures (record { periods = length run.now; bucket = result }) }
 {
     match single(run, tariff) {
-        SingleAnswer::Found(x) => x.bucket,
-        SingleAnswer::Refused(_) => Bucket {
+        Ok(x) => x.bucket,
+        Err(_) => Bucket {
             rate: Rate(0),
             depth: Depth(0),
         },

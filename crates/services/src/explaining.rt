@@ -2,15 +2,14 @@
 ghost use Rattle.std.specs.Prelude.{◌+◌, ◌≤◌, ◌≡◌, length};
 ghost use Rattle.terms.specs.Answer.{on_figures};
 ghost use Rattle.terms.specs.Lent.{filled};
+ghost use Rattle.terms.specs.Refusals.{says};
 ghost use Rattle.causes.specs.Cause.{cause_says, explained_says};
-ghost use Rattle.encoding.specs.Fill.{fill_says};
 ghost use Rattle.text.specs.PutLaws.{Puts};
 ghost use Rattle.services.specs.Services.{cause_fields, explain_in, explained_line};
 
 use crate::figures::explain_for;
-use causes::{Cause, ExplainAnswer, Explained};
-use encoding::FillAnswer;
-use terms::Rate;
+use causes::{Cause, Explained};
+use terms::{Rate, Refusal};
 use text::fills::fill;
 use text::lines::{put_depth, put_nothing, put_opening, put_stretch};
 
@@ -20,14 +19,11 @@ pub const LONGEST_EXPLAINED: usize = 31;
 // Writes the line of the smallest depth that carries an order's trace at a rate, with its cause, into the
 // front of the text and answers its length; or a refusal, and the text is as it was: 1 to 5 as reading the
 // order gives it, 5 (the rate), 7 (no depth) or 6 (the text is shorter than the line).
-pub fn explain_line(order: &[u8], rate: Rate, text: &mut [u8]) -> FillAnswer
-    ensures result_value { fill_says result ≡ on_figures length (explain_in (length text.old) rate.0 order.now) }
+pub fn explain_line(order: &[u8], rate: Rate, text: &mut [u8]) -> Result<usize, Refusal>
+    ensures result_value { says result ≡ on_figures length (explain_in (length text.old) rate.0 order.now) }
     ensures text_after { text.new ≡ filled (explain_in (length text.old) rate.0 order.now) text.old }
 {
-    let explained = match explain_for(order, rate) {
-        ExplainAnswer::Found(x) => x,
-        ExplainAnswer::Refused(why) => return FillAnswer::Refused(why),
-    };
+    let explained = explain_for(order, rate)?;
     let mut ready = [0u8; LONGEST_EXPLAINED];
     let length = put_explained(&mut ready, 0, explained);
     fill(&ready[..length], text)

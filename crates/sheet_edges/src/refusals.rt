@@ -2,7 +2,7 @@
 use crate::service_texts::print;
 use cases::{field, figure};
 use samples::file_bytes::{LENT, LENT_BYTES, lent_front};
-use terms::{Refusal, refusal_number};
+use terms::Refusal;
 use text::refusal_line;
 
 pub fn refusal_case(rt: &impl Print, line: &[u8]) {
@@ -10,7 +10,7 @@ pub fn refusal_case(rt: &impl Print, line: &[u8]) {
     let room = figure(field(line, 2), 0) as usize;
     let mut text = [LENT; LENT_BYTES];
     let answer = refusal_line(why, lent_front(&mut text, room));
-    report::figure(rt, b"refusal", refusal_number(why) as u64);
+    report::figure(rt, b"refusal", u32::from(why) as u64);
     report::figure(rt, b" in", room as u64);
     print(rt, answer, &text);
 }

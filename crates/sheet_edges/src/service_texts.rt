@@ -1,9 +1,8 @@
 // One order: what each service writes of it into a text with so much room.
 use cases::{DEMANDS, bucket_of, demands, field, figure, tariff_of, trace};
-use encoding::FillAnswer;
 use order_file::write_order;
 use samples::file_bytes::{LENT, LENT_BYTES, front, is_lent, lent_front};
-use terms::{Bucket, Rate, Tariff};
+use terms::{Bucket, Rate, Refusal, Tariff};
 
 // A case: its name in a line of its own, where it has one, and the texts.
 pub fn services_case(rt: &impl Print, line: &[u8]) {
@@ -86,7 +85,7 @@ fn cause_in(rt: &impl Print, order: &[u8], rate: Rate, room: usize) {
 }
 
 // How many bytes were filled, or the refusal; whether the rest is as it was lent; and the text.
-pub fn print(rt: &impl Print, answer: FillAnswer, text: &[u8; LENT_BYTES]) {
+pub fn print(rt: &impl Print, answer: Result<usize, Refusal>, text: &[u8; LENT_BYTES]) {
     let length = report::filled_of(answer);
     report::words(rt, b":");
     report::fill(rt, answer);

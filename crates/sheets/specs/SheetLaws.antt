@@ -10,6 +10,7 @@ use Rattle.terms.specs.AnswerLaws.{then_figures, then_refused}
 use Rattle.terms.specs.Limits.{trace_limit}
 use Rattle.terms.specs.RangeRules.{RecordRange, TariffRange}
 use Rattle.terms.specs.Records.{Cutting, Each}
+use Rattle.terms.specs.Refusals.{says}
 use Rattle.series.specs.Cutting.{none, run}
 use Rattle.series.specs.Series.{Carried, true_cost_of}
 use Rattle.series.specs.OutlineLaws.{carried-count, carried-cost}
@@ -21,7 +22,7 @@ use Rattle.text.specs.PutLaws.{Puts, Room}
 use Rattle.text.specs.ChainLaws.{first_of_two, second_of_two, two}
 use Rattle.planning.specs.declared.planned_orders.PlannedOrder.{PlannedOrder}
 use Rattle.planning.specs.declared.planned_orders.PlannedRecords.{PlannedRecords}
-use Rattle.planning.specs.Planning.{Planned, planned_says}
+use Rattle.planning.specs.Planning.{Planned}
 use Rattle.planning.specs.PlannedLaws.{IsPlanned, planned-cheapest, carried-sum, served_range}
 use Rattle.planning.specs.CallLaws.{PlansOrder, plan-refused, the_plan, plan-found, plan_figures_lem, plan-is, trace-is, trace-inside, records_are}
 use Rattle.sheets.specs.Sheet.{run_lines, sheet_text, sheet_in}
@@ -64,7 +65,7 @@ sheet_short {space} {room} {bs} {x} p =
 -- ---- A plan that was found
 
 module _ (bs : List ℕ) (r : PlannedRecords) (p : PlansOrder bs trace_limit trace_limit r) where
-  module _ (y : PlannedOrder) (f : planned_says r.answer ≡ figures y) where
+  module _ (y : PlannedOrder) (f : says r.answer ≡ figures y) where
     abbrev x : Planned
     x = the_plan bs trace_limit trace_limit r p y f
 
@@ -112,7 +113,7 @@ module _ (bs : List ℕ) (r : PlannedRecords) (p : PlansOrder bs trace_limit tra
         subst (λ (b : Answer (List ℕ)). Fills b old a new)
         (ap (fitted (length old)) text_is ∙ then_figures _ (λ z. fitted (length old) (sheet_text z)) (plan-found bs trace_limit trace_limit r p y f))
 
-  pub sheet_refused : (n : ℕ) → planned_says r.answer ≡ refused n → (old : List ℕ) → Fills (sheet_in (length old) bs) old (refused n) old
+  pub sheet_refused : (n : ℕ) → says r.answer ≡ refused n → (old : List ℕ) → Fills (sheet_in (length old) bs) old (refused n) old
   sheet_refused n f old =
       fill_refused (sheet_in (length old) bs) old n (sym (then_refused _ (λ z. fitted (length old) (sheet_text z)) (plan-refused bs trace_limit trace_limit r p n f)))
 

@@ -2,28 +2,25 @@
 ghost use Rattle.std.specs.Prelude.{◌≡◌, length};
 ghost use Rattle.terms.specs.Answer.{on_figures};
 ghost use Rattle.terms.specs.Lent.{filled};
-ghost use Rattle.encoding.specs.Fill.{fill_says};
+ghost use Rattle.terms.specs.Refusals.{says};
 ghost use Rattle.sheets.specs.Sheet.{sheet_in};
 
+use terms::Refusal;
 use crate::plan_sheets::{LONGEST_SHEET, put_sheet};
-use encoding::FillAnswer;
-use planning::planned_orders::{PlannedAnswer, plan_order};
+use planning::planned_orders::plan_order;
 use terms::limits::TRACE_LIMIT;
 use text::fills::fill;
 
 // Writes the sheet of an order into the front of the text and answers its length; or a refusal, and
 // the text is as it was: 1 to 5 as reading the order gives it, 7 (no cutting) or 6 (the text is
 // shorter than the sheet).
-pub fn sheet(order: &[u8], text: &mut [u8]) -> FillAnswer
-    ensures result_value { fill_says result ≡ on_figures length (sheet_in (length text.old) order.now) }
+pub fn sheet(order: &[u8], text: &mut [u8]) -> Result<usize, Refusal>
+    ensures result_value { says result ≡ on_figures length (sheet_in (length text.old) order.now) }
     ensures text_after { text.new ≡ filled (sheet_in (length text.old) order.now) text.old }
 {
     let planned = plan_order(order, TRACE_LIMIT, TRACE_LIMIT);
     let answer = planned.answer;
-    let found = match answer {
-        PlannedAnswer::Found(x) => x,
-        PlannedAnswer::Refused(why) => return FillAnswer::Refused(why),
-    };
+    let found = answer?;
     let demands = planned.demands;
     let records = planned.records;
     let mut ready = [0u8; LONGEST_SHEET];

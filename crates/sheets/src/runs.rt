@@ -8,7 +8,7 @@ ghost use Rattle.text.specs.PutLaws.{Puts};
 ghost use Rattle.sheets.specs.Sheet.{run_line, run_lines};
 ghost use Rattle.sheets.specs.RunLaws.{Printable};
 
-use bucket::{TrialAnswer, trial};
+use bucket::trial;
 use terms::limits::TRACE_LIMIT;
 use terms::{Bucket, BucketRecord, Factor};
 use text::lines::put_bucket_line;
@@ -20,8 +20,8 @@ fn spare_of(bucket: Bucket, factor: Factor, run: &[u16]) -> i64
     ensures { result ≡ (trial_figures bucket factor run.now).spare }
 {
     match trial(bucket, factor, run) {
-        TrialAnswer::Found(figures) => figures.spare,
-        TrialAnswer::Refused(_) => 0,
+        Ok(figures) => figures.spare,
+        Err(_) => 0,
     }
 }
 

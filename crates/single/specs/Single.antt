@@ -10,8 +10,6 @@ use Rattle.terms.specs.Ranges.{periods_ok, tariff_ok}
 use Rattle.bucket.specs.Trace.{carries}
 use Rattle.depth.specs.Depth.{tariff_depth}
 use Rattle.single.specs.declared.costs.Priced.{Priced}
-use Rattle.single.specs.declared.singles.SingleAnswer.{SingleAnswer}
-use Rattle.single.specs.declared.singles.SingleAnswer.TheVariants.{Found, Refused}
 use Rattle.single.specs.Cost.{priced_at}
 use Rattle.single.specs.Preference.{preferred}
 use Rattle.single.specs.Rates.{candidates}
@@ -50,7 +48,3 @@ cheapest_of t ds = best_of t ds (candidates t)
 unfoldable pub single_of : Tariff → List ℕ → Answer Priced
 single_of t ds = weigh (periods_ok (length ds)) 3 (weigh (tariff_ok t) 5 (cheapest_of t ds))
 
--- Each case of the answer in document 01's values and numbers.
-abbrev pub single_says : SingleAnswer → Answer Priced
-single_says (Found x) = figures x
-single_says (Refused x) = refused (number_of x)

@@ -7,4 +7,4 @@ pub mod rates;
 mod singles;
 
 pub use costs::Priced;
-pub use singles::{SingleAnswer, single};
+pub use singles::single;

@@ -1,11 +1,12 @@
 // Which of two buckets is chosen.
 ghost use Rattle.std.specs.Prelude.{◌≡◌};
 ghost use Rattle.terms.specs.Answer.{figures};
+ghost use Rattle.terms.specs.Refusals.{says};
 ghost use Rattle.single.specs.Preference.{preferred};
-ghost use Rattle.single.specs.Single.{better, single_says};
+ghost use Rattle.single.specs.Single.{better};
 
+use terms::Refusal;
 use crate::costs::Priced;
-use crate::singles::SingleAnswer;
 
 // Whether x is chosen before y: at less cost, or equal cost and a smaller rate, or both equal and
 // a smaller depth.
@@ -20,14 +21,14 @@ pub fn is_preferred(x: Priced, y: Priced) -> bool
 }
 
 // What was found so far, or the new bucket where that is preferred.
-pub fn better_of(old: SingleAnswer, new: Priced) -> SingleAnswer
-    ensures { single_says result ≡ better (single_says old) (figures new) }
+pub fn better_of(old: Result<Priced, Refusal>, new: Priced) -> Result<Priced, Refusal>
+    ensures { says result ≡ better (says old) (figures new) }
 {
-    let SingleAnswer::Found(x) = old else {
-        return SingleAnswer::Found(new);
+    let Ok(x) = old else {
+        return Ok(new);
     };
     if is_preferred(new, x) {
-        return SingleAnswer::Found(new);
+        return Ok(new);
     }
     old
 }

@@ -5,7 +5,6 @@ ghost use Rattle.terms.specs.RangeRules.{TariffRange};
 ghost use Rattle.single.specs.Rates.{greatest, weighed};
 
 use terms::Tariff;
-use terms::numbers::{greater, lesser};
 
 // How many rates, from 0 on, have to be weighed: up to the rate cap, and none above the greatest
 // demand.
@@ -13,7 +12,7 @@ pub fn rates_to_weigh(trace: &[u16], tariff: Tariff) -> u32
     requires { TariffRange tariff }
     ensures { result ≡ weighed tariff trace.now }
 {
-    lesser(tariff.rate_cap.0, greatest_demand(trace)) + 1
+    tariff.rate_cap.0.min(greatest_demand(trace)) + 1
 }
 
 fn greatest_demand(trace: &[u16]) -> u32
@@ -22,7 +21,7 @@ fn greatest_demand(trace: &[u16]) -> u32
     let mut top: u32 = 0;
     let mut i = 0;
     while i < trace.len() {
-        top = greater(top, trace[i] as u32);
+        top = top.max(trace[i] as u32);
         i += 1;
     }
     top

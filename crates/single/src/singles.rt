@@ -1,51 +1,45 @@
 // The single bucket: the call that planners use.
 ghost use Rattle.std.specs.Prelude.{◌≡◌, length};
 ghost use Rattle.terms.specs.RangeRules.{PeriodsRange, TariffRange};
+ghost use Rattle.terms.specs.Refusals.{says};
 ghost use Rattle.single.specs.Rates.{dearer};
-ghost use Rattle.single.specs.Single.{cheapest_of, single_of, single_says};
+ghost use Rattle.single.specs.Single.{cheapest_of, single_of};
 
 use crate::costs::{Priced, with_cost};
 use crate::preference::better_of;
 use crate::rates::rates_to_weigh;
-use depth::{DepthAnswer, depth_at};
+use depth::depth_at;
 use terms::{Bucket, Depth, Rate, Refusal, Tariff, periods_in_range, tariff_in_range};
-
-// What the single call answers: the bucket with its cost, or the refusal.
-#[derive(Clone, Copy)]
-pub enum SingleAnswer {
-    Found(Priced),
-    Refused(Refusal),
-}
 
 // The bucket inside the tariff's caps that carries the trace at least cost, equal costs going to
 // the smaller rate and then the smaller depth; or refusal 3, 5 or 7 (no such bucket).
-pub fn single(trace: &[u16], tariff: Tariff) -> SingleAnswer
-    ensures { single_says result ≡ single_of tariff trace.now }
+pub fn single(trace: &[u16], tariff: Tariff) -> Result<Priced, Refusal>
+    ensures { says result ≡ single_of tariff trace.now }
 {
     if !periods_in_range(trace.len()) {
-        return SingleAnswer::Refused(Refusal::Periods);
+        return Err(Refusal::Periods);
     }
     if !tariff_in_range(tariff) {
-        return SingleAnswer::Refused(Refusal::Figure);
+        return Err(Refusal::Figure);
     }
     cheapest(trace, tariff)
 }
 
 // Weighs the candidate rates from 0 on, each at its smallest depth, until those left cost more
 // than what is found even at depth 0.
-fn cheapest(trace: &[u16], tariff: Tariff) -> SingleAnswer
+fn cheapest(trace: &[u16], tariff: Tariff) -> Result<Priced, Refusal>
     requires periods_range { PeriodsRange (length trace.now) }
     requires tariff_range { TariffRange tariff }
-    ensures { single_says result ≡ cheapest_of tariff trace.now }
+    ensures { says result ≡ cheapest_of tariff trace.now }
 {
     let periods = trace.len() as u64;
     let end = rates_to_weigh(trace, tariff);
-    let mut best = SingleAnswer::Refused(Refusal::NoPlan);
+    let mut best = Err(Refusal::NoPlan);
     let mut next: u32 = 0;
     while next < end {
         let rate = Rate(next);
         next += 1;
-        let DepthAnswer::Found(depth) = depth_at(trace, rate, tariff) else {
+        let Ok(depth) = depth_at(trace, rate, tariff) else {
             continue;
         };
         let here = with_cost(tariff, periods, Bucket { rate, depth });
@@ -66,11 +60,11 @@ fn cheapest(trace: &[u16], tariff: Tariff) -> SingleAnswer
 }
 
 // Whether a bucket is found and costs less than another.
-fn costs_less(a: SingleAnswer, floor: Priced) -> bool
-    ensures { result ≡ dearer floor (single_says a) }
+fn costs_less(a: Result<Priced, Refusal>, floor: Priced) -> bool
+    ensures { result ≡ dearer floor (says a) }
 {
     match a {
-        SingleAnswer::Found(x) => x.cost < floor.cost,
-        SingleAnswer::Refused(_) => false,
+        Ok(x) => x.cost < floor.cost,
+        Err(_) => false,
     }
 }

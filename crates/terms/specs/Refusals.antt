@@ -1,7 +1,8 @@
 -- The number of each refusal (01, "Refusals by number"; 02, job 1). The comments have document 01's words, and from
 -- 10 on ours.
 -- Assumes nothing.
-use Rattle.std.specs.Prelude.{ℕ}
+use Rattle.std.specs.Prelude.{ℕ, Result, Ok, Err}
+use Rattle.terms.specs.Answer.{Answer, figures, refused}
 use Rattle.terms.specs.declared.refusal.Refusal.{Refusal}
 use Rattle.terms.specs.declared.refusal.Refusal.TheVariants.{Short, Foreign, Periods, Misplaced, Figure, List, NoPlan, Meter, Full, Unequal}
 
@@ -16,3 +17,8 @@ number_of NoPlan = 7  -- no plan
 number_of Meter = 8  -- meter
 number_of Full = 9  -- full
 number_of Unequal = 10  -- unequal
+
+-- What a call's result says: its figures, or the number of its refusal.
+abbrev pub says : {A : Type 0} → Result A Refusal → Answer A
+says (Ok x) = figures x
+says (Err why) = refused (number_of why)

@@ -3,7 +3,6 @@
 #![tactic(auto)]
 
 pub mod limits;
-pub mod numbers;
 mod ranges;
 mod refusal;
 
@@ -11,7 +10,7 @@ pub use ranges::{
     bucket_in_range, factor_in_range, fresh_in_range, periods_in_range, record_in_range,
     tariff_in_range,
 };
-pub use refusal::{Refusal, refusal_number};
+pub use refusal::Refusal;
 
 // Tokens gained in each period. One token pays for one kilobit.
 #[derive(Clone, Copy)]

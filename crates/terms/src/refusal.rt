@@ -2,7 +2,7 @@
 ghost use Rattle.std.specs.Prelude.{◌≡◌};
 ghost use Rattle.terms.specs.Refusals.{number_of};
 
-#[derive(Clone, Copy)]
+#[derive(Clone, Copy, PartialEq, Eq)]
 pub enum Refusal {
     // 1: a file under its least length
     Short,
@@ -27,19 +27,21 @@ pub enum Refusal {
 }
 
 // The number that a refusal is printed by.
-pub fn refusal_number(x: Refusal) -> u32
-    ensures { result ≡ number_of x }
-{
-    match x {
-        Refusal::Short => 1,
-        Refusal::Foreign => 2,
-        Refusal::Periods => 3,
-        Refusal::Misplaced => 4,
-        Refusal::Figure => 5,
-        Refusal::List => 6,
-        Refusal::NoPlan => 7,
-        Refusal::Meter => 8,
-        Refusal::Full => 9,
-        Refusal::Unequal => 10,
+impl From<Refusal> for u32 {
+    ghost from_gives = { λ why n. n ≡ number_of why };
+
+    fn from(why: Refusal) -> u32 {
+        match why {
+            Refusal::Short => 1,
+            Refusal::Foreign => 2,
+            Refusal::Periods => 3,
+            Refusal::Misplaced => 4,
+            Refusal::Figure => 5,
+            Refusal::List => 6,
+            Refusal::NoPlan => 7,
+            Refusal::Meter => 8,
+            Refusal::Full => 9,
+            Refusal::Unequal => 10,
+        }
     }
 }

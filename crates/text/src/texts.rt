@@ -2,8 +2,7 @@
 ghost use Rattle.std.specs.Prelude.{◌≡◌, length};
 ghost use Rattle.terms.specs.Answer.{on_figures};
 ghost use Rattle.terms.specs.Lent.{filled};
-ghost use Rattle.terms.specs.Refusals.{number_of};
-ghost use Rattle.encoding.specs.Fill.{fill_says};
+ghost use Rattle.terms.specs.Refusals.{number_of, says};
 ghost use Rattle.text.specs.Fitted.{fitted};
 ghost use Rattle.text.specs.Lines.{refusal_line};
 ghost use Rattle.text.specs.Megabits.{megabits};
@@ -12,16 +11,15 @@ use crate::figures::put_megabits;
 use crate::fills::fill;
 use crate::lines::put_refusal_line;
 use crate::numerals::places;
-use encoding::FillAnswer;
-use terms::{Refusal, refusal_number};
+use terms::Refusal;
 
 // The bytes of the longest figure: that of the least 64-bit number.
 pub const LONGEST_FIGURE: usize = 21;
 
 // Writes a figure in megabits into the front of the text and answers its length; or refusal 6 where
 // the text is shorter, and it is as it was.
-pub fn megabits(figure: i64, text: &mut [u8]) -> FillAnswer
-    ensures result_value { fill_says result ≡ on_figures length (fitted (length text.old) (megabits figure)) }
+pub fn megabits(figure: i64, text: &mut [u8]) -> Result<usize, Refusal>
+    ensures result_value { says result ≡ on_figures length (fitted (length text.old) (megabits figure)) }
     ensures text_after { text.new ≡ filled (fitted (length text.old) (megabits figure)) text.old }
 {
     let mut ready = [0u8; LONGEST_FIGURE];
@@ -37,13 +35,13 @@ pub const LONGEST_REFUSAL: usize = REFUSAL_WORD + 10;
 
 // Writes the line of a refusal into the front of the text and answers its length; or refusal 6 where
 // the text is shorter, and it is as it was.
-pub fn refusal_line(why: Refusal, text: &mut [u8]) -> FillAnswer
-    ensures result_value { fill_says result ≡ on_figures length (fitted (length text.old) (refusal_line (number_of why))) }
+pub fn refusal_line(why: Refusal, text: &mut [u8]) -> Result<usize, Refusal>
+    ensures result_value { says result ≡ on_figures length (fitted (length text.old) (refusal_line (number_of why))) }
     ensures text_after { text.new ≡ filled (fitted (length text.old) (refusal_line (number_of why))) text.old }
 {
-    let number = refusal_number(why);
+    let number = u32::from(why);
     if text.len() < REFUSAL_WORD + places(number as u64) {
-        return FillAnswer::Refused(Refusal::List);
+        return Err(Refusal::List);
     }
-    FillAnswer::Filled(put_refusal_line(text, 0, number))
+    Ok(put_refusal_line(text, 0, number))
 }

@@ -6,19 +6,19 @@ use Rattle.depth.specs.Depth.{depth_of, depth_says}
 use Rattle.causes.specs.Cause.{SetBy, explained}
 use Rattle.causes.proofs.explaining.explain.Goals as goal
 
-pub returns-in-Refused : goal.returns-in-Refused
-returns-in-Refused c =
+pub returns-in-Err : goal.returns-in-Err
+returns-in-Err c =
     let a = c.args in
-    sym (ap (on_figures (explained a.tariff a.rate.0 a.trace.now)) (sym c.depth_at.ensures ∙ ap depth_says c.in-Refused.is))
+    sym (ap (on_figures (explained a.tariff a.rate.0 a.trace.now)) (sym c.depth_at.ensures ∙ ap depth_says c.in-Err.is))
 
 pub cause_of-cause-requires : goal.cause_of-cause-requires
 cause_of-cause-requires c =
-    let depth-found : let a = c.args in depth_of a.tariff a.rate.0 a.trace.now ≡ figures c.in-Found.x.0 = sym c.depth_at.ensures ∙ ap depth_says c.in-Found.is in
+    let depth-found : let a = c.args in depth_of a.tariff a.rate.0 a.trace.now ≡ figures c.in-Ok.x.0 = sym c.depth_at.ensures ∙ ap depth_says c.in-Ok.is in
     depth-found
 
 pub returns : goal.returns
 returns c =
-    let depth-found : let a = c.args in depth_of a.tariff a.rate.0 a.trace.now ≡ figures c.in-Found.x.0 = sym c.depth_at.ensures ∙ ap depth_says c.in-Found.is in
+    let depth-found : let a = c.args in depth_of a.tariff a.rate.0 a.trace.now ≡ figures c.in-Ok.x.0 = sym c.depth_at.ensures ∙ ap depth_says c.in-Ok.is in
     let a = c.args in
-    ap (λ (s : SetBy). figures (record { depth = c.in-Found.x.0; cause = s })) c.cause_of-cause.ensures
+    ap (λ (s : SetBy). figures (record { depth = c.in-Ok.x.0; cause = s })) c.cause_of-cause.ensures
     ∙ sym (ap (on_figures (explained a.tariff a.rate.0 a.trace.now)) (depth-found))

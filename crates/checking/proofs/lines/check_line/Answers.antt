@@ -14,7 +14,7 @@ returns-in-No c =
     let all = found_fills _ _ _ _ (sym c.check.ensures ∙ ap check_says c.in-No.is) _ _ c.fill.ensures in
     record { result_value = all.0; text_after = all.1 }
 
-pub returns-in-Refused : goal.returns-in-Refused
-returns-in-Refused c =
-    let all = refused_fills _ _ _ _ (sym c.check.ensures ∙ ap check_says c.in-Refused.is) in
+pub returns-in-Err : goal.returns-in-Err
+returns-in-Err c =
+    let all = refused_fills _ _ _ _ (sym c.check.ensures ∙ ap check_says c.in-Err.is) in
     record { result_value = all.0; text_after = all.1 }

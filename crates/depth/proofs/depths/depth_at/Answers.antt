@@ -4,23 +4,24 @@ use mathlib.Core.Path.{◌≡◌, sym, ap, ◌∙◌}
 use borrow.Author.Rules.{rules}
 use Rattle.terms.specs.Answer.{figures}
 use Rattle.terms.specs.AnswerLaws.{then_figures, then_refused}
-use Rattle.depth.specs.Walked.{walk_for, walk_says}
+use Rattle.terms.specs.Refusals.{says}
+use Rattle.depth.specs.Walked.{walk_for}
 use Rattle.depth.specs.WalkedLaws.{Ready, read_off, depth_by_walk, walk_ready}
 use Rattle.depth.proofs.depths.depth_at.Goals as goal
 
-pub returns-in-Refused : goal.returns-in-Refused
-returns-in-Refused c =
+pub returns-in-Err : goal.returns-in-Err
+returns-in-Err c =
     let a = c.args in
-    then_refused _ (read_off a.tariff) (sym c.walk_through.ensures ∙ ap walk_says c.in-Refused.is) ∙ depth_by_walk _ _ _
+    then_refused _ (read_off a.tariff) (sym c.walk_through.ensures ∙ ap says c.in-Err.is) ∙ depth_by_walk _ _ _
 
 pub depth-requires : goal.depth-requires
 depth-requires c =
-    let made : let a = c.args in walk_for a.tariff a.rate.0 a.trace.now ≡ figures c.in-Walked.x = sym c.walk_through.ensures ∙ ap walk_says c.in-Walked.is in
-    let ready : Ready c.args.tariff c.in-Walked.x = walk_ready _ _ _ (record { each = λ i. omega (arith, c.shared_slice_known-1.given i) }) (made) in
+    let made : let a = c.args in walk_for a.tariff a.rate.0 a.trace.now ≡ figures c.in-Ok.x = sym c.walk_through.ensures ∙ ap says c.in-Ok.is in
+    let ready : Ready c.args.tariff c.in-Ok.x = walk_ready _ _ _ (record { each = λ i. omega (arith, c.shared_slice_known-1.given i) }) (made) in
     let k = ready in record { factor_range = k.tariff.factor; cap_le_depth_limit = k.tariff.depth_caps; walk_range = k.walk }
 
 pub returns : goal.returns
 returns c =
-    let made : let a = c.args in walk_for a.tariff a.rate.0 a.trace.now ≡ figures c.in-Walked.x = sym c.walk_through.ensures ∙ ap walk_says c.in-Walked.is in
+    let made : let a = c.args in walk_for a.tariff a.rate.0 a.trace.now ≡ figures c.in-Ok.x = sym c.walk_through.ensures ∙ ap says c.in-Ok.is in
     let a = c.args in
     c.depth.ensures ∙ then_figures _ (read_off a.tariff) (made) ∙ depth_by_walk _ _ _

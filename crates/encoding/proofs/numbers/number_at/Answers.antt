@@ -53,18 +53,6 @@ loop-k-init c = begin _ _ _
 pub overflow_mul-value : goal.overflow_mul-value
 overflow_mul-value c = omega (arith, small _ _ _ _ _ c.loop-k.invariant c.loop-k-test.true c.requires.width_bound)
 
-pub overflow_add-value : goal.overflow_add-value
-overflow_add-value c = let l = c.loop-k in let h = l.invariant.few in omega (arith, c.requires.width_in_bounds)
-
-pub bounds-bytes-at : goal.bounds-bytes-at
-bounds-bytes-at c =
-    let l = c.loop-k in
-    let h = l.invariant.few in
-    omega (arith, c.requires.width_in_bounds, c.loop-k-test.true)
-
-pub overflow_cast-value : goal.overflow_cast-value
-overflow_cast-value c = omega (arith, c.shared_slice_known-1.given (c.args.at + (c.loop-k.k - 1)))
-
 pub overflow_add-value-in-loop-k : goal.overflow_add-value-in-loop-k
 overflow_add-value-in-loop-k c =
     let l = c.loop-k in
@@ -74,8 +62,3 @@ pub loop-k-preserved : goal.loop-k-preserved
 loop-k-preserved c =
     let l = c.loop-k in
     next _ _ _ _ _ l.invariant c.loop-k-test.true c.requires.width_in_bounds (omega (arith, c.shared_slice_known-1.given (c.args.at + (l.k - 1))))
-
-pub returns : goal.returns
-returns c =
-    let all = end _ _ _ _ _ c.loop-k.invariant c.loop-k-test.false in
-    record { value = all.0; upper_bound = all.1 }

@@ -12,6 +12,3 @@ pub record Reading (bs : List ℕ) (at width value k : ℕ) : Type 0 where
 
 abbrev pub invariant-loop-k : goal.invariant-loop-k
 invariant-loop-k l = Reading l.bytes l.at l.width l.value l.k
-
-abbrev pub decreases-loop-k : goal.decreases-loop-k
-decreases-loop-k l = l.k

@@ -35,6 +35,3 @@ module _ (old : List ℕ) (at width value : ℕ) where
 
 abbrev pub invariant-loop-k : goal.invariant-loop-k
 invariant-loop-k l = Writing l.initial.bytes l.at l.width l.value l.bytes l.rest l.k
-
-abbrev pub decreases-loop-k : goal.decreases-loop-k
-decreases-loop-k l = l.width - l.k

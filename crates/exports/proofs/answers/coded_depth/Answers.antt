@@ -5,5 +5,5 @@ use Rattle.exports.specs.Answers.{coded}
 use borrow.Author.Rules.{rules}
 use Rattle.exports.proofs.answers.coded_depth.Goals as goal
 
-pub returns-in-Refused : goal.returns-in-Refused
-returns-in-Refused c = c.coded_refusal.ensures ∙ sym (ap (λ x. coded (depth_says x)) c.in-Refused.is)
+pub returns-in-Err : goal.returns-in-Err
+returns-in-Err c = c.coded_refusal.ensures ∙ sym (ap (λ x. coded (depth_says x)) c.in-Err.is)

@@ -11,9 +11,9 @@ returns-in-No c =
     let e = sym c.check.ensures ∙ ap check_says c.in-No.is in
     record { value = code_found _ verdict_code _ e; excess_after = excess_is _ _ e _ }
 
-pub returns-in-Refused : goal.returns-in-Refused
-returns-in-Refused c =
-    let e = sym c.check.ensures ∙ ap check_says c.in-Refused.is in
+pub returns-in-Err : goal.returns-in-Err
+returns-in-Err c =
+    let e = sym c.check.ensures ∙ ap check_says c.in-Err.is in
     record { value = code_refused _ verdict_code _ _ e c.coded_refusal.ensures; excess_after = excess_is _ _ e _ }
 
 pub returns : goal.returns

@@ -12,9 +12,9 @@ use Rattle.exports.proofs.explaining.metqoraz_explain.Goals as goal
 abbrev number : (CauseNumbers → ℕ) → Explanation → ℕ
 number figure x = figure (cause_numbers x.cause)
 
-pub returns-in-Refused : goal.returns-in-Refused
-returns-in-Refused c =
-    let e = sym c.explain_for.ensures ∙ ap explain_says c.in-Refused.is in
+pub returns-in-Err : goal.returns-in-Err
+returns-in-Err c =
+    let e = sym c.explain_for.ensures ∙ ap explain_says c.in-Err.is in
     record {
       value = code_refused _ (λ x. x.depth) _ _ e c.coded_refusal.ensures;
       cause_after = number_kept _ (number (λ n. n.cause)) _ _ e;
@@ -24,7 +24,7 @@ returns-in-Refused c =
 
 pub returns : goal.returns
 returns c =
-    let e = sym c.explain_for.ensures ∙ ap explain_says c.in-Found.is in
+    let e = sym c.explain_for.ensures ∙ ap explain_says c.in-Ok.is in
     let n = c.numbers_of-numbers.ensures in
     record {
       value = code_found _ (λ x. x.depth) _ e;

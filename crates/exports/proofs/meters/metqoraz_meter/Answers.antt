@@ -4,7 +4,7 @@ use mathlib.Core.Bool.{true}
 use borrow.Author.Tests.{le-leb, lt-leb}
 use Rattle.terms.specs.Bools.{check_passed, check_failed}
 use Rattle.terms.specs.Ranges.{fresh_ok}
-use Rattle.meter.specs.Meter.{open_says}
+use Rattle.terms.specs.Refusals.{says}
 use Rattle.single.specs.Single.{bucket_of}
 use Rattle.exports.specs.Answers.{factor_of}
 use Rattle.exports.specs.MeterLaws.{meter_figures_lem, meter_list, meter_refused, meter_totals}
@@ -26,12 +26,12 @@ returns-then-totals-lt-TOTALS c =
     (fresh) (lt-leb _ _ c.if-totals-lt-TOTALS.true) _ c.coded_refusal-then-totals-lt-TOTALS.ensures in
     record { value = all.0; totals_after = all.1 }
 
-pub returns-in-Refused : goal.returns-in-Refused
-returns-in-Refused c =
+pub returns-in-Err : goal.returns-in-Err
+returns-in-Err c =
     let fresh : let s = c.args in fresh_ok (bucket_of s.rate s.depth) (factor_of s.p s.q) ≡ true = (sym c.fresh_in_range.ensures ∙ c.if-not-fresh_in_range.false) in
     let s = c.args in
     let all = meter_refused (bucket_of s.rate s.depth) (factor_of s.p s.q) s.offers.now s.totals.now
-    (fresh) (le-leb _ _ c.if-totals-lt-TOTALS.false) _ (sym c.meter_run.ensures ∙ ap open_says c.in-Refused.is) _ c.coded_refusal-in-Refused.ensures in
+    (fresh) (le-leb _ _ c.if-totals-lt-TOTALS.false) _ (sym c.meter_run.ensures ∙ ap says c.in-Err.is) _ c.coded_refusal-in-Err.ensures in
     record { value = all.0; totals_after = all.1 }
 
 pub returns : goal.returns
@@ -39,5 +39,5 @@ returns c =
     let fresh : let s = c.args in fresh_ok (bucket_of s.rate s.depth) (factor_of s.p s.q) ≡ true = (sym c.fresh_in_range.ensures ∙ c.if-not-fresh_in_range.false) in
     let s = c.args in
     let all = meter_totals (bucket_of s.rate s.depth) (factor_of s.p s.q) s.offers.now s.totals.now
-    (fresh) (le-leb _ _ c.if-totals-lt-TOTALS.false) _ (sym c.meter_run.ensures ∙ ap open_says c.in-Opened.is) c.if-totals-lt-TOTALS.false _ c.put_totals.ensures in
+    (fresh) (le-leb _ _ c.if-totals-lt-TOTALS.false) _ (sym c.meter_run.ensures ∙ ap says c.in-Ok.is) c.if-totals-lt-TOTALS.false _ c.put_totals.ensures in
     record { value = all.0; totals_after = all.1 }

@@ -7,10 +7,11 @@ use mathlib.Core.List.{List, ◌∷◌}
 use lib.ListN.{length, drop, get_or, drop_of_length-le}
 use lib.Seq.{drop-cons}
 use Rattle.terms.specs.Answer.{Answer, figures, refused, and_then}
+use Rattle.terms.specs.Refusals.{says}
 use Rattle.bucket.specs.declared.period.Period.{Period}
 use Rattle.meter.specs.declared.meters.Meter.{Meter}
 use Rattle.meter.specs.declared.meters.Offered.{Offered}
-use Rattle.meter.specs.Meter.{record_after, offers_of, offer_says, Answered}
+use Rattle.meter.specs.Meter.{record_after, offers_of, Answered}
 use Rattle.meter.proofs.runs.offer_each.Goals as goal
 
 module _ (m : Meter) (ds : List ℕ) (i : ℕ) (whole : Answer Meter) (e : offers_of m (drop i ds) ≡ whole) where
@@ -19,17 +20,17 @@ module _ (m : Meter) (ds : List ℕ) (i : ℕ) (whole : Answer Meter) (e : offer
     onward a = and_then a (λ x. offers_of (record_after m (figures x)) (drop (i + 1) ds))
 
     -- the next offer and what follows it
-    next : whole ≡ onward (offer_says r.answer)
+    next : whole ≡ onward (says r.answer)
     unfolding offers_of
     next =
         sym e
         ∙ ap (offers_of m) (drop-cons ds i 0 l ∙ ap (λ (n : ℕ). get_or ds i 0 ∷ drop n ds) (sym (add-one i)))
         ∙ ap onward (sym k.answers)
 
-    refuses : (n : ℕ) → offer_says r.answer ≡ refused n → refused n ≡ whole
+    refuses : (n : ℕ) → says r.answer ≡ refused n → refused n ≡ whole
     refuses n f = sym (next ∙ ap onward f)
 
-    goes_on : (x : Period) → offer_says r.answer ≡ figures x → offers_of r.meter (drop (i + 1) ds) ≡ whole
+    goes_on : (x : Period) → says r.answer ≡ figures x → offers_of r.meter (drop (i + 1) ds) ≡ whole
     goes_on x f =
         ap (λ (m' : Meter). offers_of m' (drop (i + 1) ds)) (k.records ∙ ap (record_after m) (sym k.answers ∙ f))
         ∙ sym (next ∙ ap onward f)
@@ -41,11 +42,11 @@ module _ (m : Meter) (ds : List ℕ) (i : ℕ) (whole : Answer Meter) (e : offer
 pub loop-i-init : goal.loop-i-init
 loop-i-init c = refl
 
-pub returns-in-Refused : goal.returns-in-Refused
-returns-in-Refused c = refuses _ _ _ _ c.loop-i.invariant c.loop-i-test.true _ c.offer-offered.ensures _ (ap offer_says c.in-Refused.is)
+pub returns-in-Err : goal.returns-in-Err
+returns-in-Err c = refuses _ _ _ _ c.loop-i.invariant c.loop-i-test.true _ c.offer-offered.ensures _ (ap says c.in-Err.is)
 
 pub loop-i-preserved : goal.loop-i-preserved
-loop-i-preserved c = goes_on _ _ _ _ c.loop-i.invariant c.loop-i-test.true _ c.offer-offered.ensures _ (ap offer_says c.in_default.is)
+loop-i-preserved c = goes_on _ _ _ _ c.loop-i.invariant c.loop-i-test.true _ c.offer-offered.ensures _ (ap says c.in_default.is)
 
 pub returns : goal.returns
 returns c = none_left _ _ _ _ c.loop-i.invariant c.loop-i-test.false

@@ -5,10 +5,11 @@ use native.Mathlib.Omega.{arith}
 use mathlib.Core.Path.{◌≡◌, sym, ap, ◌∙◌}
 use lib.ListN.{length, take, drop, get_or, length-take, length-drop}
 use Rattle.terms.specs.Answer.{figures}
+use Rattle.terms.specs.Refusals.{says}
 use Rattle.bucket.specs.Laws.{demands-take, demands-drop}
 use Rattle.bucket.specs.Trace.{Demands}
 use Rattle.meter.specs.declared.meters.Meter.{Meter}
-use Rattle.meter.specs.Meter.{meter_run, open_says}
+use Rattle.meter.specs.Meter.{meter_run}
 use Rattle.meter.specs.MeterLaws.{Sound}
 use Rattle.meter.specs.MeterRuns.{metered-sound}
 use Rattle.record_list.specs.Held.{no_record}
@@ -46,16 +47,16 @@ slice_bounds-meter_run-end c =
     let inside : let s = c.args in c.loop-i.start + (get_or s.records c.loop-i.i no_record).periods ≤ length s.trace.now = let l = c.loop-i in run_inside c.args.buckets c.args.records c.args.trace.now l.start l.i l.invariant.begins (fits) c.loop-i-test.true in
     inside
 
-pub returns-in-Refused : goal.returns-in-Refused
-returns-in-Refused c =
+pub returns-in-Err : goal.returns-in-Err
+returns-in-Err c =
     let fits : c.args.buckets ≤ length c.args.records = let l = c.requires.counts_range in omega (arith, l.few, l.periods.few) in
-    let ran : let l = c.loop-i in let s = c.args in let x = get_or s.records l.i no_record in open_says c.meter_run.result ≡ meter_run x.bucket s.factor (take x.periods (drop l.start s.trace.now)) = let l = c.loop-i in let s = c.args in let x = get_or s.records l.i no_record in c.meter_run.ensures ∙ ap (meter_run x.bucket s.factor) (part-is s.trace.now l.start x.periods) in
-    run-refused _ _ _ _ c.loop-i.invariant (fits) c.loop-i-test.true _ (ran) _ (ap open_says c.in-Refused.is)
+    let ran : let l = c.loop-i in let s = c.args in let x = get_or s.records l.i no_record in says c.meter_run.result ≡ meter_run x.bucket s.factor (take x.periods (drop l.start s.trace.now)) = let l = c.loop-i in let s = c.args in let x = get_or s.records l.i no_record in c.meter_run.ensures ∙ ap (meter_run x.bucket s.factor) (part-is s.trace.now l.start x.periods) in
+    run-refused _ _ _ _ c.loop-i.invariant (fits) c.loop-i-test.true _ (ran) _ (ap says c.in-Err.is)
 
 pub with-totals-requires : goal.with-totals-requires
 with-totals-requires c =
-    let ran : let l = c.loop-i in let s = c.args in let x = get_or s.records l.i no_record in open_says c.meter_run.result ≡ meter_run x.bucket s.factor (take x.periods (drop l.start s.trace.now)) = let l = c.loop-i in let s = c.args in let x = get_or s.records l.i no_record in c.meter_run.ensures ∙ ap (meter_run x.bucket s.factor) (part-is s.trace.now l.start x.periods) in
-    let sound : (m : Meter) → open_says c.meter_run.result ≡ figures m → Sound m = λ m e. let l = c.loop-i in let ds = c.args.trace.now in let x = get_or c.args.records l.i no_record in let h : Demands ds = record { each = λ j. omega (arith, c.type_inv.trace j) } in metered-sound x.bucket c.args.factor (take x.periods (drop l.start ds)) (demands-take x.periods _ (demands-drop l.start ds h)) (omega (arith, c.requires.counts_range.periods.few, length-take x.periods (drop l.start ds), length-drop l.start ds)) m (sym (ran) ∙ e) in
+    let ran : let l = c.loop-i in let s = c.args in let x = get_or s.records l.i no_record in says c.meter_run.result ≡ meter_run x.bucket s.factor (take x.periods (drop l.start s.trace.now)) = let l = c.loop-i in let s = c.args in let x = get_or s.records l.i no_record in c.meter_run.ensures ∙ ap (meter_run x.bucket s.factor) (part-is s.trace.now l.start x.periods) in
+    let sound : (m : Meter) → says c.meter_run.result ≡ figures m → Sound m = λ m e. let l = c.loop-i in let ds = c.args.trace.now in let x = get_or c.args.records l.i no_record in let h : Demands ds = record { each = λ j. omega (arith, c.type_inv.trace j) } in metered-sound x.bucket c.args.factor (take x.periods (drop l.start ds)) (demands-take x.periods _ (demands-drop l.start ds h)) (omega (arith, c.requires.counts_range.periods.few, length-take x.periods (drop l.start ds), length-drop l.start ds)) m (sym (ran) ∙ e) in
     let few = c.loop-i.invariant.few in
     let l = c.requires.counts_range in
     let t = c.loop-i-test.true in record {
@@ -65,7 +66,7 @@ with-totals-requires c =
         losts = omega (arith, few.losts, t, l.few, l.periods.few);
         helds = omega (arith, few.helds, t, l.few, l.periods.few);
       };
-      sound = sound _ (ap open_says c.in-Opened.is);
+      sound = sound _ (ap says c.in-Ok.is);
     }
 
 pub overflow_add-i : goal.overflow_add-i
@@ -76,9 +77,9 @@ overflow_add-i c =
 pub loop-i-preserved : goal.loop-i-preserved
 loop-i-preserved c =
     let fits : c.args.buckets ≤ length c.args.records = let l = c.requires.counts_range in omega (arith, l.few, l.periods.few) in
-    let ran : let l = c.loop-i in let s = c.args in let x = get_or s.records l.i no_record in open_says c.meter_run.result ≡ meter_run x.bucket s.factor (take x.periods (drop l.start s.trace.now)) = let l = c.loop-i in let s = c.args in let x = get_or s.records l.i no_record in c.meter_run.ensures ∙ ap (meter_run x.bucket s.factor) (part-is s.trace.now l.start x.periods) in
-    let sound : (m : Meter) → open_says c.meter_run.result ≡ figures m → Sound m = λ m e. let l = c.loop-i in let ds = c.args.trace.now in let x = get_or c.args.records l.i no_record in let h : Demands ds = record { each = λ j. omega (arith, c.type_inv.trace j) } in metered-sound x.bucket c.args.factor (take x.periods (drop l.start ds)) (demands-take x.periods _ (demands-drop l.start ds h)) (omega (arith, c.requires.counts_range.periods.few, length-take x.periods (drop l.start ds), length-drop l.start ds)) m (sym (ran) ∙ e) in
-    let e = ap open_says c.in-Opened.is in
+    let ran : let l = c.loop-i in let s = c.args in let x = get_or s.records l.i no_record in says c.meter_run.result ≡ meter_run x.bucket s.factor (take x.periods (drop l.start s.trace.now)) = let l = c.loop-i in let s = c.args in let x = get_or s.records l.i no_record in c.meter_run.ensures ∙ ap (meter_run x.bucket s.factor) (part-is s.trace.now l.start x.periods) in
+    let sound : (m : Meter) → says c.meter_run.result ≡ figures m → Sound m = λ m e. let l = c.loop-i in let ds = c.args.trace.now in let x = get_or c.args.records l.i no_record in let h : Demands ds = record { each = λ j. omega (arith, c.type_inv.trace j) } in metered-sound x.bucket c.args.factor (take x.periods (drop l.start ds)) (demands-take x.periods _ (demands-drop l.start ds h)) (omega (arith, c.requires.counts_range.periods.few, length-take x.periods (drop l.start ds), length-drop l.start ds)) m (sym (ran) ∙ e) in
+    let e = ap says c.in-Ok.is in
     one_metered _ _ _ _ c.loop-i.invariant (fits) c.loop-i-test.true _ (ran) _ e (sound _ e) _ c.with-totals.ensures
 
 pub returns : goal.returns

@@ -8,32 +8,32 @@ use lib.Dec.{leb}
 use lib.ListN.{length}
 use Rattle.terms.specs.Limits.{trace_limit}
 use Rattle.terms.specs.Ranges.{factor_ok}
+use Rattle.terms.specs.Refusals.{says}
 use Rattle.bucket.specs.Trace.{Demands}
-use Rattle.plan_file.specs.Plan.{plan_says}
 use Rattle.recording.specs.RecordingLaws.{read_taken, back_ready, plan-metered}
 use Rattle.recording.proofs.recorded.record_plan.Goals as goal
 
-pub returns-in-Read : goal.returns-in-Read
-returns-in-Read c =
+pub returns-in-Ok : goal.returns-in-Ok
+returns-in-Ok c =
     let a = c.args in
     let size : length a.records ≡ trace_limit = omega arith in
     let opens : factor_ok a.factor ≡ true = sym c.factor_in_range.ensures ∙ c.if-not-factor_in_range.false in
     let room : leb a.plan.buckets a.space ≡ true = le-leb _ _ c.if-space-buckets.false in
     let demands : Demands a.trace.now = record { each = λ i. omega (arith, c.type_inv.trace i) } in
-    let w = c.in-Filled.ensures in
+    let w = c.in-Ok.ensures in
     let r = c.read_records-recorded.ensures in
     plan-metered a.plan a.factor a.trace.now a.room a.records size a.bytes.now a.space opens room _ w.bytes_after _ w.result_value
-    c.in-Read.found (sym (ap plan_says c.in-Read.is) ∙ r.answer_value) _ r.records_value c.requires demands _ c.meter_runs-meters.ensures _ c.with_meters-answer.ensures refl
+    c.in-Ok.found (sym (ap says c.in-Ok.is) ∙ r.answer_value) _ r.records_value c.requires demands _ c.meter_runs-meters.ensures _ c.with_meters-answer.ensures refl
 
-pub returns-in-Refused-answer : goal.returns-in-Refused-answer
-returns-in-Refused-answer c =
+pub returns-in-Err-answer : goal.returns-in-Err-answer
+returns-in-Err-answer c =
     let a = c.args in
     let size : length a.records ≡ trace_limit = omega arith in
     let opens : factor_ok a.factor ≡ true = sym c.factor_in_range.ensures ∙ c.if-not-factor_in_range.false in
     let room : leb a.plan.buckets a.space ≡ true = le-leb _ _ c.if-space-buckets.false in
-    let w = c.in-Filled.ensures in
+    let w = c.in-Ok.ensures in
     absurd (read_taken a.plan a.factor a.trace.now a.room a.records size a.bytes.now a.space opens room _ w.bytes_after _ w.result_value _
-    (sym (ap plan_says c.in-Refused-answer.is) ∙ c.read_records-recorded.ensures.answer_value))
+    (sym (ap says c.in-Err-answer.is) ∙ c.read_records-recorded.ensures.answer_value))
 
 pub meter_runs-meters-requires : goal.meter_runs-meters-requires
 meter_runs-meters-requires c =
@@ -41,8 +41,8 @@ meter_runs-meters-requires c =
     let size : length a.records ≡ trace_limit = omega arith in
     let opens : factor_ok a.factor ≡ true = sym c.factor_in_range.ensures ∙ c.if-not-factor_in_range.false in
     let room : leb a.plan.buckets a.space ≡ true = le-leb _ _ c.if-space-buckets.false in
-    let w = c.in-Filled.ensures in
+    let w = c.in-Ok.ensures in
     let r = c.read_records-recorded.ensures in
     let all = back_ready a.plan a.factor a.trace.now a.room a.records size a.bytes.now a.space opens room _ w.bytes_after _ w.result_value
-    c.in-Read.found (sym (ap plan_says c.in-Read.is) ∙ r.answer_value) _ r.records_value c.requires in
+    c.in-Ok.found (sym (ap says c.in-Ok.is) ∙ r.answer_value) _ r.records_value c.requires in
     record { counts_range = all.0; records_value = all.1 }

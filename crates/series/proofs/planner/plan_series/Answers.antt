@@ -13,7 +13,8 @@ use Rattle.terms.specs.Bools.{check_passed, check_failed}
 use Rattle.terms.specs.Ranges.{periods_ok, tariff_ok}
 use Rattle.terms.specs.RangeLaws.{periods_range, tariff_range}
 use Rattle.terms.specs.Records.{Cutting}
-use Rattle.series.specs.Series.{cheapest_cut, plan_of, series_of, series_says}
+use Rattle.terms.specs.Refusals.{says}
+use Rattle.series.specs.Series.{cheapest_cut, plan_of, series_of}
 use Rattle.record_list.specs.Held.{held}
 use Rattle.series.specs.CallLaws.{refusal}
 use mathlib.Core.Path.{sym, ◌∙◌}
@@ -75,7 +76,7 @@ returns c =
     let periods : periods_ok (length c.args.trace.now) ≡ true = (sym c.periods_in_range.ensures ∙ c.if-not-periods_in_range.false) in
     let figures : tariff_ok c.args.tariff ≡ true = (sym c.tariff_in_range.ensures ∙ c.if-not-tariff_in_range.false) in
     let s = c.args in
-    let all = subst (λ (a : Answer Cutting). (series_says c.cheapest.result.answer ≡ plan_of s.tariff a) × (c.cheapest.result.records ≡ held a))
+    let all = subst (λ (a : Answer Cutting). (says c.cheapest.result.answer ≡ plan_of s.tariff a) × (c.cheapest.result.records ≡ held a))
     (past-tests s.tariff s.room s.trace.now (periods) (figures) (le-leb _ _ c.if-room-periods.false))
     (c.cheapest.ensures.answer_value, c.cheapest.ensures.records_value) in
     record { answer_value = all.0; records_value = all.1 }

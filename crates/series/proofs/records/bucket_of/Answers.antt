@@ -1,17 +1,17 @@
 -- What the single call finds is the run's record; a run that has a bucket is not refused.
 use Rattle.series.specs.RecordLaws.{record_single}
 use Rattle.series.specs.Series.{record_for}
-use Rattle.single.specs.Single.{single_says}
 use Rattle.terms.specs.AnswerLaws.{figures-refused}
+use Rattle.terms.specs.Refusals.{says}
 use borrow.Author.Rules.{rules}
 use mathlib.Core.Path.{sym, ap, ◌∙◌}
 use Rattle.series.proofs.records.bucket_of.Goals as goal
 
-pub returns-in-Found : goal.returns-in-Found
-returns-in-Found c = record_single _ _ c.requires.tariff_range c.requires.periods_range ∙ ap (record_for _) (sym c.single.ensures ∙ ap single_says c.in-Found.is)
+pub returns-in-Ok : goal.returns-in-Ok
+returns-in-Ok c = record_single _ _ c.requires.tariff_range c.requires.periods_range ∙ ap (record_for _) (sym c.single.ensures ∙ ap says c.in-Ok.is)
 
-pub returns-in-Refused : goal.returns-in-Refused
-returns-in-Refused c =
+pub returns-in-Err : goal.returns-in-Err
+returns-in-Err c =
     absurd
     (figures-refused
-    (sym c.requires.has_bucket.1 ∙ record_single _ _ c.requires.tariff_range c.requires.periods_range ∙ ap (record_for _) (sym c.single.ensures ∙ ap single_says c.in-Refused.is)))
+    (sym c.requires.has_bucket.1 ∙ record_single _ _ c.requires.tariff_range c.requires.periods_range ∙ ap (record_for _) (sym c.single.ensures ∙ ap says c.in-Err.is)))

@@ -13,33 +13,33 @@ use Rattle.services.specs.Services.{explain_for, explained_line}
 use borrow.Author.Rules.{rules}
 use Rattle.services.proofs.explaining.explain_line.Goals as goal
 
-pub returns-in-Refused : goal.returns-in-Refused
-returns-in-Refused c =
-    let all = refused_fills _ _ _ _ (sym c.explain_for.ensures ∙ ap explain_says c.in-Refused.is) in
+pub returns-in-Err : goal.returns-in-Err
+returns-in-Err c =
+    let all = refused_fills _ _ _ _ (sym c.explain_for.ensures ∙ ap explain_says c.in-Err.is) in
     record { result_value = all.0; text_after = all.1 }
 
 pub put_explained-length-requires : goal.put_explained-length-requires
 put_explained-length-requires c =
-    let found : explain_for c.args.rate.0 c.args.order.now ≡ figures (explained_says c.in-Found.x) = sym c.explain_for.ensures ∙ ap explain_says c.in-Found.is in
-    let room : length (explained_line (explained_says c.in-Found.x)) ≤ length (zeros longest_explained) = omega (arith, explained-line-short _ _ _ (found)) in
+    let found : explain_for c.args.rate.0 c.args.order.now ≡ figures (explained_says c.in-Ok.x) = sym c.explain_for.ensures ∙ ap explain_says c.in-Ok.is in
+    let room : length (explained_line (explained_says c.in-Ok.x)) ≤ length (zeros longest_explained) = omega (arith, explained-line-short _ _ _ (found)) in
     omega (arith, room)
 
 pub slice_bounds-ready-end : goal.slice_bounds-ready-end
 slice_bounds-ready-end c =
-    let found : explain_for c.args.rate.0 c.args.order.now ≡ figures (explained_says c.in-Found.x) = sym c.explain_for.ensures ∙ ap explain_says c.in-Found.is in
-    let room : length (explained_line (explained_says c.in-Found.x)) ≤ length (zeros longest_explained) = omega (arith, explained-line-short _ _ _ (found)) in
+    let found : explain_for c.args.rate.0 c.args.order.now ≡ figures (explained_says c.in-Ok.x) = sym c.explain_for.ensures ∙ ap explain_says c.in-Ok.is in
+    let room : length (explained_line (explained_says c.in-Ok.x)) ≤ length (zeros longest_explained) = omega (arith, explained-line-short _ _ _ (found)) in
     ready_inside (zeros longest_explained) _ (room) _ _ c.put_explained-length.ensures
 
 pub slice_bounds-fill-end : goal.slice_bounds-fill-end
 slice_bounds-fill-end c =
-    let found : explain_for c.args.rate.0 c.args.order.now ≡ figures (explained_says c.in-Found.x) = sym c.explain_for.ensures ∙ ap explain_says c.in-Found.is in
-    let room : length (explained_line (explained_says c.in-Found.x)) ≤ length (zeros longest_explained) = omega (arith, explained-line-short _ _ _ (found)) in
+    let found : explain_for c.args.rate.0 c.args.order.now ≡ figures (explained_says c.in-Ok.x) = sym c.explain_for.ensures ∙ ap explain_says c.in-Ok.is in
+    let room : length (explained_line (explained_says c.in-Ok.x)) ≤ length (zeros longest_explained) = omega (arith, explained-line-short _ _ _ (found)) in
     ready_count (zeros longest_explained) _ (room) _ _ c.put_explained-length.ensures
 
 pub returns : goal.returns
 returns c =
-    let found : explain_for c.args.rate.0 c.args.order.now ≡ figures (explained_says c.in-Found.x) = sym c.explain_for.ensures ∙ ap explain_says c.in-Found.is in
-    let room : length (explained_line (explained_says c.in-Found.x)) ≤ length (zeros longest_explained) = omega (arith, explained-line-short _ _ _ (found)) in
+    let found : explain_for c.args.rate.0 c.args.order.now ≡ figures (explained_says c.in-Ok.x) = sym c.explain_for.ensures ∙ ap explain_says c.in-Ok.is in
+    let room : length (explained_line (explained_says c.in-Ok.x)) ≤ length (zeros longest_explained) = omega (arith, explained-line-short _ _ _ (found)) in
     let old = c.args.text.now in
     let all = found_fills _ _ old _ (found) _ _
     (ready_fills (zeros longest_explained) _ (room) _ _ c.put_explained-length.ensures old _ _ c.fill.ensures) in

@@ -4,16 +4,16 @@ use borrow.Author.Rules.{rules}
 use mir.Facts.{to_z-of_z}
 use mir.Syntax.{w64}
 use Rattle.terms.specs.AnswerLaws.{figures-refused, same-figures}
+use Rattle.terms.specs.Refusals.{says}
 use Rattle.bucket.specs.declared.trials.TrialFigures.{TrialFigures}
-use Rattle.bucket.specs.Trial.{trial_says}
 use Rattle.bucket.specs.TrialLaws.{tried}
 use Rattle.sheets.proofs.runs.spare_of.Goals as goal
 
-pub returns-in-Found : goal.returns-in-Found
-returns-in-Found c =
+pub returns-in-Ok : goal.returns-in-Ok
+returns-in-Ok c =
     to_z-of_z {w = w64} (record { sfits = c.struct_told-1.given.0.1 })
     ∙ ap (λ (x : TrialFigures). x.spare)
-    (same-figures (ap trial_says (sym c.in-Found.is) ∙ c.trial.ensures ∙ tried _ _ c.args.run.now c.requires.fresh_range c.requires.periods_range))
+    (same-figures (ap says (sym c.in-Ok.is) ∙ c.trial.ensures ∙ tried _ _ c.args.run.now c.requires.fresh_range c.requires.periods_range))
 
-pub returns-in-Refused : goal.returns-in-Refused
-returns-in-Refused c = absurd (figures-refused (sym (tried _ _ c.args.run.now c.requires.fresh_range c.requires.periods_range) ∙ sym c.trial.ensures ∙ ap trial_says c.in-Refused.is))
+pub returns-in-Err : goal.returns-in-Err
+returns-in-Err c = absurd (figures-refused (sym (tried _ _ c.args.run.now c.requires.fresh_range c.requires.periods_range) ∙ sym c.trial.ensures ∙ ap says c.in-Err.is))

@@ -6,7 +6,7 @@ pub returns-in_default : goal.returns-in_default
 returns-in_default c = rw c.in_default.is
 
 pub returns-then-is_preferred : goal.returns-then-is_preferred
-returns-then-is_preferred c = rw (c.in-Found.is, ← c.is_preferred.ensures, c.if-is_preferred.true)
+returns-then-is_preferred c = rw (c.in-Ok.is, ← c.is_preferred.ensures, c.if-is_preferred.true)
 
 pub returns : goal.returns
-returns c = rw (c.in-Found.is, ← c.is_preferred.ensures, c.if-is_preferred.false)
+returns c = rw (c.in-Ok.is, ← c.is_preferred.ensures, c.if-is_preferred.false)

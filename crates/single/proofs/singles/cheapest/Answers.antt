@@ -14,13 +14,12 @@ use Rattle.terms.specs.RangeRules.{PeriodsRange, TariffRange}
 use Rattle.terms.specs.RangeLaws.{tariff_ok_lem, periods_ok_lem}
 use Rattle.terms.specs.Bools.{both_and}
 use Rattle.terms.specs.declared.refusal.Refusal.TheVariants.{NoPlan}
+use Rattle.terms.specs.Refusals.{says}
 use Rattle.depth.specs.Depth.{tariff_depth, depth_of, depth_says}
 use Rattle.depth.specs.DepthLaws.{depth_in_range, depth-within}
 use Rattle.single.specs.declared.costs.Priced.{Priced}
-use Rattle.single.specs.declared.singles.SingleAnswer.{SingleAnswer}
-use Rattle.single.specs.declared.singles.SingleAnswer.TheVariants.{Refused}
 use Rattle.single.specs.Rates.{dearer}
-use Rattle.single.specs.Single.{better, best_of, single_says}
+use Rattle.single.specs.Single.{better, best_of}
 use Rattle.single.specs.BestLaws.{best_next}
 use Rattle.single.specs.RateLaws.{inside_cap, weighed-enough, dearer-enough}
 use Rattle.single.proofs.singles.cheapest.Invariants.{Weighing}
@@ -52,7 +51,7 @@ pub with_cost-here-requires : goal.with_cost-here-requires
 with_cost-here-requires c =
     let slow : c.loop-next.next ≤ c.args.tariff.rate_cap.0 = let a = c.args in inside_cap a.tariff a.trace.now _ _ c.rates_to_weigh-end.ensures c.loop-next-test.true in
     let there : depth_says c.depth_at.result ≡ tariff_depth c.args.tariff c.loop-next.next c.args.trace.now = c.depth_at.ensures ∙ in_range _ _ _ c.requires.periods_range c.requires.tariff_range (slow) in
-    let found : figures c.in-Found.depth.0 ≡ tariff_depth c.args.tariff c.loop-next.next c.args.trace.now = sym (ap depth_says c.in-Found.is) ∙ there in
+    let found : figures c.in-Ok.depth.0 ≡ tariff_depth c.args.tariff c.loop-next.next c.args.trace.now = sym (ap depth_says c.in-Ok.is) ∙ there in
     record { tariff_range = c.requires.tariff_range; periods_le_trace_limit = c.requires.periods_range.few; bucket_range = record { rates = le_trans (slow) c.requires.tariff_range.rate_caps; depths = le_trans (depth-within _ _ _ _ _ (sym (found))) c.requires.tariff_range.depth_caps } }
 
 pub with_cost-floor-requires : goal.with_cost-floor-requires
@@ -64,18 +63,18 @@ pub returns-then-costs_less : goal.returns-then-costs_less
 returns-then-costs_less c =
     let slow : c.loop-next.next ≤ c.args.tariff.rate_cap.0 = let a = c.args in inside_cap a.tariff a.trace.now _ _ c.rates_to_weigh-end.ensures c.loop-next-test.true in
     let there : depth_says c.depth_at.result ≡ tariff_depth c.args.tariff c.loop-next.next c.args.trace.now = c.depth_at.ensures ∙ in_range _ _ _ c.requires.periods_range c.requires.tariff_range (slow) in
-    let found : figures c.in-Found.depth.0 ≡ tariff_depth c.args.tariff c.loop-next.next c.args.trace.now = sym (ap depth_says c.in-Found.is) ∙ there in
-    let best-here : single_says c.better_of-best.result ≡ best_of c.args.tariff c.args.trace.now (c.loop-next.next + 1) = c.better_of-best.ensures ∙ ap (λ (x : Priced). better (single_says c.loop-next.best) (figures x)) c.with_cost-here.ensures ∙ best_next _ _ _ (figures _) _ (found) c.loop-next.invariant.so_far in
+    let found : figures c.in-Ok.depth.0 ≡ tariff_depth c.args.tariff c.loop-next.next c.args.trace.now = sym (ap depth_says c.in-Ok.is) ∙ there in
+    let best-here : says c.better_of-best.result ≡ best_of c.args.tariff c.args.trace.now (c.loop-next.next + 1) = c.better_of-best.ensures ∙ ap (λ (x : Priced). better (says c.loop-next.best) (figures x)) c.with_cost-here.ensures ∙ best_next _ _ _ (figures _) _ (found) c.loop-next.invariant.so_far in
     dearer-enough _ _ _ _ (best-here)
-    (ap (λ (x : Priced). dearer x (single_says c.better_of-best.result)) (sym c.with_cost-floor.ensures) ∙ sym c.costs_less.ensures ∙ c.if-costs_less.true)
+    (ap (λ (x : Priced). dearer x (says c.better_of-best.result)) (sym c.with_cost-floor.ensures) ∙ sym c.costs_less.ensures ∙ c.if-costs_less.true)
     (omega (arith, slow))
 
 pub loop-next-preserved : goal.loop-next-preserved
 loop-next-preserved c =
     let slow : c.loop-next.next ≤ c.args.tariff.rate_cap.0 = let a = c.args in inside_cap a.tariff a.trace.now _ _ c.rates_to_weigh-end.ensures c.loop-next-test.true in
     let there : depth_says c.depth_at.result ≡ tariff_depth c.args.tariff c.loop-next.next c.args.trace.now = c.depth_at.ensures ∙ in_range _ _ _ c.requires.periods_range c.requires.tariff_range (slow) in
-    let found : figures c.in-Found.depth.0 ≡ tariff_depth c.args.tariff c.loop-next.next c.args.trace.now = sym (ap depth_says c.in-Found.is) ∙ there in
-    let best-here : single_says c.better_of-best.result ≡ best_of c.args.tariff c.args.trace.now (c.loop-next.next + 1) = c.better_of-best.ensures ∙ ap (λ (x : Priced). better (single_says c.loop-next.best) (figures x)) c.with_cost-here.ensures ∙ best_next _ _ _ (figures _) _ (found) c.loop-next.invariant.so_far in
+    let found : figures c.in-Ok.depth.0 ≡ tariff_depth c.args.tariff c.loop-next.next c.args.trace.now = sym (ap depth_says c.in-Ok.is) ∙ there in
+    let best-here : says c.better_of-best.result ≡ best_of c.args.tariff c.args.trace.now (c.loop-next.next + 1) = c.better_of-best.ensures ∙ ap (λ (x : Priced). better (says c.loop-next.best) (figures x)) c.with_cost-here.ensures ∙ best_next _ _ _ (figures _) _ (found) c.loop-next.invariant.so_far in
     record { inside = omega (arith, c.loop-next-test.true); so_far = best-here }
 
 pub returns : goal.returns

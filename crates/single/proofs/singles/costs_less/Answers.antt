@@ -2,5 +2,5 @@
 use borrow.Author.Rules.{rules}
 use Rattle.single.proofs.singles.costs_less.Goals as goal
 
-pub returns-in-Found : goal.returns-in-Found
-returns-in-Found c = rw c.in-Found.is
+pub returns-in-Ok : goal.returns-in-Ok
+returns-in-Ok c = rw c.in-Ok.is
