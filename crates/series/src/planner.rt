@@ -1,9 +1,8 @@
 // The series planned: the plan's figures and its records. Public only for the crates above.
-ghost use Rattle.std.specs.Prelude.{◌≡◌, length};
+ghost use Rattle.std.specs.Prelude.{Err, ◌≡◌, length};
 ghost use Rattle.terms.specs.RangeRules.{PeriodsRange, TariffRange};
 ghost use Rattle.terms.specs.Refusals.{says};
 ghost use Rattle.record_list.specs.Held.{blank, held};
-ghost use Rattle.series.specs.declared.answers.SeriesAnswer.TheVariants.{Refused};
 ghost use Rattle.series.specs.Series.{cheapest_cut, plan_of, series_of};
 
 use crate::answers::{Plan, SeriesRecords};
@@ -33,7 +32,7 @@ pub fn plan_series(trace: &[u16], tariff: Tariff, room: usize) -> SeriesRecords
 
 // A refusal, and no records.
 fn refused(why: Refusal) -> SeriesRecords
-    ensures { result ≡ record { answer = Refused why; records = blank } }
+    ensures { result ≡ record { answer = Err why; records = blank } }
 {
     let records = blank_records();
     SeriesRecords {
