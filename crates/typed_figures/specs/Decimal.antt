@@ -1,12 +1,7 @@
 -- Decimal digits, and the number that a word of them stands for.
 -- Assumes nothing.
-use Rattle.std.specs.Prelude.{ℕ, ◌+◌, ◌-◌, ◌*◌, Bool, cond, ◌&&◌, List, [], ◌∷◌, leb}
-use Rattle.std.proofs.Math.Option.{Option, none, some}
+use Rattle.std.specs.Prelude.{ℕ, ◌+◌, ◌-◌, ◌*◌, Bool, cond, ◌&&◌, List, [], ◌∷◌, leb, Option, Some, None}
 use Rattle.terms.specs.Answer.{Answer, figures, refused, weigh}
-use Rattle.typed_figures.specs.declared.words.NumberAnswer.{NumberAnswer}
-use Rattle.typed_figures.specs.declared.words.NumberAnswer.TheVariants.{Number, NoNumber}
-use Rattle.typed_figures.specs.declared.digits.Push.{Push}
-use Rattle.typed_figures.specs.declared.digits.Push.TheVariants.{Value, Above}
 
 -- the bytes `0` to `9`
 abbrev pub is_digit : ℕ → Bool
@@ -18,7 +13,7 @@ appended v b = v * 10 + (b - 48)
 
 -- … or none where this is above the limit.
 abbrev pub pushed : ℕ → ℕ → ℕ → Option ℕ
-pushed limit v b = let n = appended v b in cond (leb n limit) (some n) none
+pushed limit v b = let n = appended v b in cond (leb n limit) (Some n) None
 
 -- the greatest number of 32 bits
 abbrev pub number_limit : ℕ
@@ -35,13 +30,7 @@ abbrev pub number_in : List ℕ → Answer ℕ
 number_in [] = refused 5
 number_in (b ∷ bs) = number_from 0 (b ∷ bs)
 
--- ---- The answers' cases
-
--- … in document 01's values and numbers.
-abbrev pub number_says : NumberAnswer → Answer ℕ
-number_says (Number n) = figures n
-number_says NoNumber = refused 5
-
-abbrev pub push_says : Push → Option ℕ
-push_says (Value n) = some n
-push_says Above = none
+-- What a number's call says, in document 01's values and numbers.
+abbrev pub number_says : Option ℕ → Answer ℕ
+number_says (Some n) = figures n
+number_says None = refused 5

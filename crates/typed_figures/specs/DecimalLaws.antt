@@ -1,10 +1,9 @@
 -- A word of digits read byte by byte, and that the digits of a number stand for it.
 -- Assumes nothing.
-use Rattle.std.specs.Prelude.{ℕ, suc, ◌+◌, ◌-◌, ◌*◌, ◌/◌, ◌%◌, ◌^◌, ◌≤◌, ◌<◌, ◌≡◌, refl, Bool, true, false, cond, List, [], ◌∷◌, ◌++◌, leb, length, drop, get_or}
+use Rattle.std.specs.Prelude.{ℕ, suc, ◌+◌, ◌-◌, ◌*◌, ◌/◌, ◌%◌, ◌^◌, ◌≤◌, ◌<◌, ◌≡◌, refl, Bool, true, false, cond, List, [], ◌∷◌, ◌++◌, leb, length, drop, get_or, Some, None}
 use Rattle.std.proofs.Common.{arith, zero-lt-suc, mod-lt, sym, subst, ◌∙◌, leb-true, le-leb, length-append, drop_of_length-le}
 use Rattle.std.proofs.Math.Nat.{mod-add-div}
 use Rattle.std.proofs.Math.Path.{ap}
-use Rattle.std.proofs.Math.Option.{none, some}
 use Rattle.std.proofs.lemmas.Bool.{lt-leb}
 use Rattle.terms.specs.Answer.{figures, refused}
 use Rattle.terms.specs.Bools.{and_both, both_and}
@@ -24,27 +23,27 @@ digit_range b h = let k = and_both (leb 48 b) (leb b 57) h in omega (arith, leb-
 -- ---- One more digit
 
 module _ (limit v b : ℕ) where
-  pub push_above : limit < appended v b → pushed limit v b ≡ none
+  pub push_above : limit < appended v b → pushed limit v b ≡ None
   push_above h = rw (lt-leb (appended v b) limit h)
 
-  pub push_within : appended v b ≤ limit → pushed limit v b ≡ some (appended v b)
+  pub push_within : appended v b ≤ limit → pushed limit v b ≡ Some (appended v b)
   push_within h = rw (le-leb (appended v b) limit h)
 
-  push_none : pushed limit v b ≡ none → leb (appended v b) limit ≡ false
+  push_none : pushed limit v b ≡ None → leb (appended v b) limit ≡ false
   push_none = go (leb (appended v b) limit)
     where
-      go : (t : Bool) → cond t (some (appended v b)) none ≡ none → t ≡ false
+      go : (t : Bool) → cond t (Some (appended v b)) None ≡ None → t ≡ false
       go true e = let z : ◌≡◌ {A = ℕ} 0 1 = cc in absurd (omega arith)
       go false e = refl
 
-  push_some : (n : ℕ) → pushed limit v b ≡ some n → (leb (appended v b) limit ≡ true) × (appended v b ≡ n)
+  push_some : (n : ℕ) → pushed limit v b ≡ Some n → (leb (appended v b) limit ≡ true) × (appended v b ≡ n)
   push_some n = go (leb (appended v b) limit)
     where
-      go : (t : Bool) → cond t (some (appended v b)) none ≡ some n → (t ≡ true) × (appended v b ≡ n)
+      go : (t : Bool) → cond t (Some (appended v b)) None ≡ Some n → (t ≡ true) × (appended v b ≡ n)
       go true e = (refl, cc)
       go false e = let z : ◌≡◌ {A = ℕ} 0 1 = cc in absurd (omega arith)
 
-  pub push_limit : (n : ℕ) → pushed limit v b ≡ some n → n ≤ limit
+  pub push_limit : (n : ℕ) → pushed limit v b ≡ Some n → n ≤ limit
   push_limit n e = let k = push_some n e in omega (arith, leb-true (appended v b) limit k.0, k.1)
 
 -- ---- A word, from its i-th byte on
@@ -70,11 +69,11 @@ module _ (w : List ℕ) (v i : ℕ) where
     unfolding number_from
     number_other h = ap (number_from v) (drop_next w i 0 l) ∙ rw h
 
-    pub number_above : is_digit b ≡ true → pushed number_limit v b ≡ none → number_from v (drop i w) ≡ refused 5
+    pub number_above : is_digit b ≡ true → pushed number_limit v b ≡ None → number_from v (drop i w) ≡ refused 5
     unfolding number_from
     number_above h e = ap (number_from v) (drop_next w i 0 l) ∙ rw (h, push_none number_limit v b e)
 
-    pub number_next : (n : ℕ) → is_digit b ≡ true → pushed number_limit v b ≡ some n → number_from v (drop i w) ≡ number_from n (drop (i + 1) w)
+    pub number_next : (n : ℕ) → is_digit b ≡ true → pushed number_limit v b ≡ Some n → number_from v (drop i w) ≡ number_from n (drop (i + 1) w)
     unfolding number_from
     number_next n h e =
         let k = push_some number_limit v b n e in

@@ -8,4 +8,4 @@ mod limits;
 mod words;
 
 pub use limits::limit_of;
-pub use words::{NumberAnswer, number_of};
+pub use words::number_of;

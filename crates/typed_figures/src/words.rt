@@ -2,34 +2,22 @@
 ghost use Rattle.std.specs.Prelude.{◌≡◌};
 ghost use Rattle.typed_figures.specs.Decimal.{number_in, number_says};
 
-use crate::digits::{Push, is_digit, push_digit};
+use crate::digits::{is_digit, push_digit};
 
-#[derive(Clone, Copy)]
-pub enum NumberAnswer {
-    Number(u32),
-    // no digits, something else than digits, or a number above 4,294,967,295
-    NoNumber,
-}
-
-// The number that a word of decimal digits stands for, or that it is none: refusal 5.
-pub fn number_of(word: &[u8]) -> NumberAnswer
+// The number that a word of decimal digits stands for; none where there are no digits, something else
+// than digits, or a number above 4,294,967,295: refusal 5.
+pub fn number_of(word: &[u8]) -> Option<u32>
     ensures { number_says result ≡ number_in word.now }
 {
-    if word.len() == 0 {
-        return NumberAnswer::NoNumber;
+    if word.is_empty() {
+        return None;
     }
     let mut value = 0;
-    let mut i = 0;
-    while i < word.len() {
-        let byte = word[i];
+    for &byte in word {
         if !is_digit(byte) {
-            return NumberAnswer::NoNumber;
+            return None;
         }
-        let Push::Value(next) = push_digit(value, byte, u32::MAX) else {
-            return NumberAnswer::NoNumber;
-        };
-        value = next;
-        i += 1;
+        value = push_digit(value, byte, u32::MAX)?;
     }
-    NumberAnswer::Number(value)
+    Some(value)
 }
