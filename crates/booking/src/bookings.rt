@@ -1,7 +1,6 @@
 // The call that planners use: from an order file to a recorded plan.
 ghost use Rattle.std.specs.Prelude.{◌≡◌};
 ghost use Rattle.terms.specs.Refusals.{says};
-ghost use Rattle.record_list.specs.Held.{counted};
 ghost use Rattle.booking.specs.Booking.{lent};
 ghost use Rattle.booking.specs.Claim.{Claim};
 
@@ -27,19 +26,9 @@ pub fn book(
         (lent demands.new plan.new bytes.new back.new)
         (says result) }
 {
-    let booked = book_records(order, demands, plan.len(), bytes, back.len());
-    let count = buckets_of(booked.answer);
+    let booked = book_records(order, demands, plan.len(), bytes, back.len())?;
+    let count = booked.booking.plan.buckets as usize;
     store_records(plan, booked.plan, count);
     store_records(back, booked.back, count);
-    booked.answer
-}
-
-// The number of buckets; none on a refusal.
-fn buckets_of(answer: Result<Booking, Refusal>) -> usize
-    ensures { result ≡ counted (λ x. x.plan.buckets) (says answer) }
-{
-    match answer {
-        Ok(x) => x.plan.buckets as usize,
-        Err(_) => 0,
-    }
+    Ok(booked.booking)
 }

@@ -1,11 +1,13 @@
 // Booking with the records by value. Public only for this crate's call, which stores them in the lent
 // lists.
 ghost use Rattle.std.specs.Prelude.{length};
+ghost use Rattle.terms.specs.Refusals.{says};
 ghost use Rattle.booking.specs.CallLaws.{sizes};
 ghost use Rattle.booking.specs.RecordLaws.{Books};
 
 use crate::calls::{BookedRecords, make_calls};
 use order_file::spreads::store_demands;
+use terms::Refusal;
 
 // The booking call for lists of `room` and of `space` records. The demands are stored once the order is
 // booked.
@@ -15,17 +17,12 @@ pub fn book_records(
     room: usize,
     bytes: &mut [u8],
     space: usize,
-) -> BookedRecords
+) -> Result<BookedRecords, Refusal>
     ensures { Books order.now (sizes (length demands.old) room (length bytes.old) space)
-        demands.old bytes.old demands.new bytes.new result }
+        demands.old bytes.old demands.new bytes.new (says result) }
 {
-    let booked = make_calls(order, demands.len(), room, bytes, space);
-    let answer = booked.answer;
-    let Ok(x) = answer else {
-        return booked;
-    };
-    let periods = x.plan.periods as usize;
-    let spread = booked.demands;
-    store_demands(&spread[..periods], demands);
-    booked
+    let booked = make_calls(order, demands.len(), room, bytes, space)?;
+    let periods = booked.booking.plan.periods as usize;
+    store_demands(&booked.demands[..periods], demands);
+    Ok(booked)
 }

@@ -2,12 +2,13 @@
 -- and "stretch" are document 02's words; periods are counted from 1. That a cause is always found for a depth above 0,
 -- and what it says of the trace and of the bucket, are laws (`CauseLaws`, `DiscardLaws`).
 -- Assumes nothing.
-use Rattle.std.specs.Prelude.{ℕ, ◌-◌, ◌*◌, Bool, true, false, cond, List, eqb, ltb, length}
+use Rattle.std.specs.Prelude.{ℕ, ◌-◌, ◌*◌, Bool, true, false, cond, List, Result, eqb, ltb, length}
 use Rattle.std.proofs.Math.Seq.{slice}
 use Rattle.terms.specs.declared.Tariff.{Tariff}
+use Rattle.terms.specs.declared.refusal.Refusal.{Refusal}
 use Rattle.terms.specs.Answer.{Answer, figures, refused, on_figures, and_then, figure_or}
 use Rattle.terms.specs.Records.{total}
-use Rattle.terms.specs.Refusals.{number_of}
+use Rattle.terms.specs.Refusals.{says}
 use Rattle.bucket.specs.Step.{start_of}
 use Rattle.depth.specs.Depth.{depth_of, first_from}
 use Rattle.causes.specs.declared.explaining.Cause.{Cause}
@@ -95,6 +96,5 @@ cause_says (Stretch x) = stretch x.first x.last
 abbrev pub explained_says : Explained → Explanation
 explained_says x = record { depth = x.depth.0; cause = cause_says x.cause }
 
-abbrev pub explain_says : (Result Explained Refusal) → Answer Explanation
-explain_says (Found x) = figures (explained_says x)
-explain_says (Refused x) = refused (number_of x)
+abbrev pub explain_says : Result Explained Refusal → Answer Explanation
+explain_says r = on_figures explained_says (says r)

@@ -1,12 +1,13 @@
 -- A plan checked against an order, whichever planning house made it (02, job 1; refusal 10).
 -- Assumes nothing.
-use Rattle.std.specs.Prelude.{ℕ, ◌-◌, Bool, true, cond, ◌&&◌, List, [], ◌∷◌, leb, eqb, take, drop}
+use Rattle.std.specs.Prelude.{Result, ℕ, ◌-◌, Bool, true, cond, ◌&&◌, List, [], ◌∷◌, leb, eqb, take, drop}
 use Rattle.terms.specs.declared.Bucket.{Bucket}
 use Rattle.terms.specs.declared.Tariff.{Tariff}
 use Rattle.terms.specs.Answer.{Answer, figures, refused, weigh, on_figures, and_then}
 use Rattle.terms.specs.Limits.{trace_limit}
 use Rattle.terms.specs.Records.{Cutting, run_length}
-use Rattle.terms.specs.Refusals.{number_of}
+use Rattle.terms.specs.declared.refusal.Refusal.{Refusal}
+use Rattle.terms.specs.Refusals.{says}
 use Rattle.bucket.specs.Trace.{carries}
 use Rattle.series.specs.Series.{true_cost_of, series_of}
 use Rattle.order_file.specs.Order.{order_end}
@@ -14,8 +15,8 @@ use Rattle.order_file.specs.Ordered.{Ordered, ordered}
 use Rattle.plan_file.specs.Plan.{Recorded, plan_in}
 use Rattle.text.specs.Lines.{yes_line, no_line}
 use Rattle.text.specs.Fitted.{fitted}
-use Rattle.checking.specs.declared.verdicts.CheckAnswer.{CheckAnswer}
-use Rattle.checking.specs.declared.verdicts.CheckAnswer.TheVariants.{Yes, No, Refused}
+use Rattle.checking.specs.declared.verdicts.Verdict.{Verdict as Said}
+use Rattle.checking.specs.declared.verdicts.Verdict.TheVariants.{Yes, No}
 
 -- What is said of a plan: yes, with its excess, or no.
 pub data Verdict : Type 0 where
@@ -64,10 +65,12 @@ abbrev pub check_of : List ℕ → List ℕ → Answer Verdict
 check_of order plan = and_then (ordered trace_limit order) (λ x. and_then (plan_in plan) (compared x))
 
 -- Each case of the answer in document 02's values and numbers.
-abbrev pub check_says : CheckAnswer → Answer Verdict
-check_says (Yes excess) = figures (yes excess)
-check_says No = figures no
-check_says (Refused x) = refused (number_of x)
+abbrev pub verdict_says : Said → Verdict
+verdict_says (Yes excess) = yes excess
+verdict_says No = no
+
+abbrev pub check_says : Result Said Refusal → Answer Verdict
+check_says r = on_figures verdict_says (says r)
 
 -- ---- As a line
 

@@ -9,4 +9,4 @@ mod verdicts;
 
 pub use checks::check;
 pub use lines::{LONGEST_VERDICT, check_files, check_line};
-pub use verdicts::CheckAnswer;
+pub use verdicts::Verdict;

@@ -10,7 +10,7 @@ ghost use Rattle.checking.specs.Check.{check_files, check_in};
 
 use terms::Refusal;
 use crate::checks::check;
-use crate::verdicts::CheckAnswer;
+use crate::verdicts::Verdict;
 use order_file::order_end;
 use text::fills::fill;
 use text::lines::put_yes_line;
@@ -25,10 +25,9 @@ pub fn check_line(order: &[u8], plan: &[u8], text: &mut [u8]) -> Result<usize, R
     ensures result_value { says result ≡ on_figures length (check_in (length text.old) order.now plan.now) }
     ensures text_after { text.new ≡ filled (check_in (length text.old) order.now plan.now) text.old }
 {
-    match check(order, plan) {
-        CheckAnswer::Yes(excess) => yes_line(excess, text),
-        CheckAnswer::No => fill(b"no\n", text),
-        CheckAnswer::Refused(why) => Err(why),
+    match check(order, plan)? {
+        Verdict::Yes(excess) => yes_line(excess, text),
+        Verdict::No => fill(b"no\n", text),
     }
 }
 

@@ -1,9 +1,11 @@
 -- The depth at a rate (01, "Depth at a rate"; refusals 3, 5 and 7), also of a trace in archive order (02, job 2).
 -- Assumes nothing.
-use Rattle.std.specs.Prelude.{ℕ, zero, suc, Bool, cond, ◌&&◌, List, reverse, leb, length}
+use Rattle.std.specs.Prelude.{ℕ, zero, suc, Bool, cond, ◌&&◌, List, Result, reverse, leb, length}
+use Rattle.terms.specs.declared.Depth.{Depth}
 use Rattle.terms.specs.declared.Tariff.{Tariff}
-use Rattle.terms.specs.Answer.{Answer, figures, refused, weigh}
-use Rattle.terms.specs.Refusals.{number_of}
+use Rattle.terms.specs.declared.refusal.Refusal.{Refusal}
+use Rattle.terms.specs.Answer.{Answer, figures, refused, weigh, on_figures}
+use Rattle.terms.specs.Refusals.{says}
 use Rattle.terms.specs.Ranges.{periods_ok, tariff_ok}
 use Rattle.bucket.specs.Trace.{carries}
 
@@ -33,7 +35,6 @@ depth_of t r ds = weigh (periods_ok (length ds)) 3 (weigh (rate_ok t r) 5 (tarif
 abbrev pub depth_from_end : Tariff → ℕ → List ℕ → Answer ℕ
 depth_from_end t r list = depth_of t r (reverse list)
 
--- Each case of the answer in document 01's values and numbers.
-abbrev pub depth_says : (Result Depth Refusal) → Answer ℕ
-depth_says (Found B) = figures B.0
-depth_says (Refused x) = refused (number_of x)
+-- What a depth call says: the depth as a number, or the number of its refusal.
+abbrev pub depth_says : Result Depth Refusal → Answer ℕ
+depth_says r = on_figures (λ B. B.0) (says r)

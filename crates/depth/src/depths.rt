@@ -49,10 +49,8 @@ fn walked(list: &[u16], rate: Rate) -> Walk
     ensures { result ≡ walk_of rate.0 list.now }
 {
     let mut walk = Walk::new();
-    let mut i = 0;
-    while i < list.len() {
-        walk = walk.push(rate, list[i]);
-        i += 1;
+    for &demand in list {
+        walk = walk.push(rate, demand);
     }
     walk
 }

@@ -18,9 +18,8 @@ use terms::limits::TRACE_LIMIT;
 pub fn metqoraz_series(order: &[u8]) -> u64
     ensures { result ≡ coded (planned_cost order.now) }
 {
-    let answer = plan_order(order, TRACE_LIMIT, TRACE_LIMIT).answer;
-    match answer {
-        Ok(x) => x.plan.cost,
+    match plan_order(order, TRACE_LIMIT, TRACE_LIMIT) {
+        Ok(x) => x.found.plan.cost,
         Err(why) => coded_refusal(why),
     }
 }
@@ -31,19 +30,17 @@ pub fn metqoraz_book(order: &[u8], plan: &mut [u8]) -> u64
     ensures value { result ≡ coded (on_figures length (plan_file_in (length plan.old) order.now)) }
     ensures plan_after { plan.new ≡ filled (plan_file_in (length plan.old) order.now) plan.old }
 {
-    let planned = plan_order(order, TRACE_LIMIT, TRACE_LIMIT);
-    let answer = planned.answer;
-    let found = match answer {
+    let planned = match plan_order(order, TRACE_LIMIT, TRACE_LIMIT) {
         Ok(x) => x,
         Err(why) => return coded_refusal(why),
     };
+    let found = planned.found;
     let figures = PlanFigures {
         periods: found.order.periods,
         buckets: found.plan.buckets,
         cost: found.plan.cost,
     };
-    let records = planned.records;
-    coded_fill(write_records(figures, TRACE_LIMIT, records, plan))
+    coded_fill(write_records(figures, TRACE_LIMIT, planned.records, plan))
 }
 
 // Reads a plan file: its T and its number of buckets into the two numbers, its run lengths, rates and
@@ -65,14 +62,12 @@ pub fn metqoraz_plan(
         (lists runs.new rates.new depths.new) }
 {
     let room = runs.len().min(rates.len()).min(depths.len());
-    let read = read_records(plan, room);
-    let answer = read.answer;
-    let records = read.records;
-    let found = match answer {
+    let read = match read_records(plan, room) {
         Ok(x) => x,
         Err(why) => return coded_refusal(why),
     };
-    store_figures(records, found.buckets as usize, runs, rates, depths);
+    let found = read.figures;
+    store_figures(read.records, found.buckets as usize, runs, rates, depths);
     *periods = found.periods;
     *buckets = found.buckets;
     found.cost

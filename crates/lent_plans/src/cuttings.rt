@@ -2,7 +2,6 @@
 ghost use Rattle.std.specs.Prelude.{◌≡◌, length};
 ghost use Rattle.terms.specs.Lent.{filled};
 ghost use Rattle.terms.specs.Refusals.{says};
-ghost use Rattle.record_list.specs.Held.{counted};
 ghost use Rattle.series.specs.Series.{plan_of, series_of};
 
 use series::Plan;
@@ -18,18 +17,7 @@ pub fn series(trace: &[u16], tariff: Tariff, list: &mut [BucketRecord]) -> Resul
     ensures { (says result ≡ plan_of tariff (series_of tariff (length list.old) trace.now))
         × (list.new ≡ filled (series_of tariff (length list.old) trace.now) list.old) }
 {
-    let planned = plan_series(trace, tariff, list.len());
-    let count = buckets_of(planned.answer);
-    store_records(list, planned.records, count);
-    planned.answer
-}
-
-// The number of buckets; none on a refusal.
-fn buckets_of(answer: Result<Plan, Refusal>) -> usize
-    ensures { result ≡ counted (λ x. x.buckets) (says answer) }
-{
-    match answer {
-        Ok(plan) => plan.buckets as usize,
-        Err(_) => 0,
-    }
+    let found = plan_series(trace, tariff, list.len())?;
+    store_records(list, found.records, found.plan.buckets as usize);
+    Ok(found.plan)
 }

@@ -3,7 +3,6 @@ ghost use Rattle.std.specs.Prelude.{◌≡◌, length};
 ghost use Rattle.terms.specs.Answer.{on_figures};
 ghost use Rattle.terms.specs.Lent.{filled};
 ghost use Rattle.terms.specs.Refusals.{says};
-ghost use Rattle.record_list.specs.Held.{counted};
 ghost use Rattle.plan_file.specs.CallLaws.{load_count};
 ghost use Rattle.plan_file.specs.Plan.{buckets_of, recorded_figures, read_plan, VeryPlan, write_plan};
 
@@ -22,20 +21,9 @@ pub fn read_plan(bytes: &[u8], list: &mut [BucketRecord]) -> Result<PlanFigures,
         × (list.new ≡ filled (buckets_of (read_plan (length list.old) bytes.now)) list.old)
         × VeryPlan bytes.now (read_plan (length list.old) bytes.now) }
 {
-    let found = read_records(bytes, list.len());
-    let count = buckets_of(found.answer);
-    store_records(list, found.records, count);
-    found.answer
-}
-
-// The number of buckets; none on a refusal.
-fn buckets_of(answer: Result<PlanFigures, Refusal>) -> usize
-    ensures { result ≡ counted (λ x. x.buckets) (says answer) }
-{
-    match answer {
-        Ok(plan) => plan.buckets as usize,
-        Err(_) => 0,
-    }
+    let found = read_records(bytes, list.len())?;
+    store_records(list, found.records, found.figures.buckets as usize);
+    Ok(found.figures)
 }
 
 // Writes a plan into the front of the bytes, its records from the front of the list, and answers its

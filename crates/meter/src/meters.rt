@@ -1,5 +1,5 @@
 // The meter: a bucket run a period at a time on what is offered, with running totals.
-ghost use Rattle.std.specs.Prelude.{◌≡◌};
+ghost use Rattle.std.specs.Prelude.{◌≡◌, Err};
 ghost use Rattle.terms.specs.RangeRules.{FreshRange};
 ghost use Rattle.terms.specs.Answer.{figures};
 ghost use Rattle.terms.specs.Refusals.{says};
@@ -71,7 +71,7 @@ pub fn offer(meter: Meter, demand: u16) -> Offered
 
 // A refusal with the record that comes back.
 fn refuse(meter: Meter, why: Refusal) -> Offered
-    ensures { result ≡ record { meter = meter; answer = OfferAnswer.Refused why } }
+    ensures { result ≡ record { meter = meter; answer = Err why } }
 {
     Offered {
         meter,

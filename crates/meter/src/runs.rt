@@ -11,10 +11,7 @@ use terms::{Bucket, Factor, Refusal};
 pub fn meter_run(bucket: Bucket, factor: Factor, demands: &[u16]) -> Result<Meter, Refusal>
     ensures { says result ≡ meter_run bucket factor demands.now }
 {
-    let answer = open_meter(bucket, factor);
-    let Ok(meter) = answer else {
-        return answer;
-    };
+    let meter = open_meter(bucket, factor)?;
     offer_each(meter, demands)
 }
 
@@ -23,15 +20,10 @@ fn offer_each(opened: Meter, demands: &[u16]) -> Result<Meter, Refusal>
     ensures { says result ≡ offers_of opened demands.now }
 {
     let mut meter = opened;
-    let mut i = 0;
-    while i < demands.len() {
-        let offered = offer(meter, demands[i]);
-        let answer = offered.answer;
-        if let Err(why) = answer {
-            return Err(why);
-        }
+    for &demand in demands {
+        let offered = offer(meter, demand);
+        offered.answer?;
         meter = offered.meter;
-        i += 1;
     }
     Ok(meter)
 }

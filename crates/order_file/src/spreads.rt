@@ -16,10 +16,8 @@ pub fn spread_order(order: &[u8], demands: &mut [u16]) -> Result<Order, Refusal>
     ensures { SpreadsOrder order.now demands.old demands.new (says result) }
 {
     let found = read_order(order)?;
-    match spread(trace_part(order), demands) {
-        Ok(_) => Ok(found),
-        Err(why) => Err(why),
-    }
+    spread(trace_part(order), demands)?;
+    Ok(found)
 }
 
 // Stores demands at the front of a list with room for them.

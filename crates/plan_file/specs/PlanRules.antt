@@ -4,7 +4,7 @@ use Rattle.std.specs.Prelude.{ℕ, ◌+◌, ◌≤◌, ◌≡◌, Bool, true, fa
 use Rattle.std.proofs.Common.{arith, sym, ap, ap₂, subst, ◌∙◌, leb-true, le-leb, eqb-true, eq-eqb, length-append}
 use Rattle.std.proofs.Math.Path.{refl}
 use Rattle.terms.specs.declared.BucketRecord.{BucketRecord}
-use Rattle.terms.specs.Answer.{Answer, figures, refused, weigh}
+use Rattle.terms.specs.Answer.{Answer, figures, refused, weigh, on_figures}
 use Rattle.terms.specs.AnswerLaws.{same-figures, weigh-figures, on_figures_lem, then_figures, then_refused, then_found}
 use Rattle.terms.specs.Bools.{and_three, both_and}
 use Rattle.terms.specs.Limits.{cost_limit, trace_limit}
@@ -17,9 +17,9 @@ use Rattle.encoding.specs.Number.{bytes_of, number_at, bytes_of_all}
 use Rattle.encoding.specs.NumberLaws.{length_items, length-bytes, length_all}
 use Rattle.encoding.specs.Header.{Placed, placed_as}
 use Rattle.encoding.specs.HeaderLaws.{placed_range, placed_ok}
-use Rattle.record_list.specs.Held.{blank, held}
+use Rattle.record_list.specs.Held.{held}
 use Rattle.plan_file.specs.RecordLaws.{RecordsRange, records_range, records_ok_lem}
-use Rattle.plan_file.specs.Plan.{Recorded, figures_in, plan_kind, cost_offset, buckets_offset, plan_length, plan_bytes, counts_ok, records_ok, records_in, plan_in, fitting, read_plan, recorded_figures, buckets_of, plan_words, record_bytes, plan_file}
+use Rattle.plan_file.specs.Plan.{Recorded, figures_in, plan_kind, cost_offset, buckets_offset, plan_length, plan_bytes, counts_ok, records_ok, records_in, plan_in, fitting, read_plan, recorded_figures, in_array, plan_words, record_bytes, plan_file}
 
 -- T and k in their ranges, as orders of numbers.
 pub record CountsRange (T k : ℕ) : Type 0 where
@@ -176,31 +176,17 @@ read_whole bs = go (plan_in bs) refl
     go (refused n) e = sym (then_refused (plan_in bs) (fitting trace_limit) e) ∙ sym e
 
 module _ (bs : List ℕ) (room : ℕ) where
-  -- What is answered, and what the array holds.
-  abbrev pub Result : Answer PlanFigures → Cutting → Type 0
-  Result r records = (r ≡ recorded_figures (read_plan room bs)) × (records ≡ held (buckets_of (read_plan room bs)))
-
-  result : (a : Answer Recorded) → read_plan room bs ≡ a → (r : Answer PlanFigures) (records : Cutting) → r ≡ recorded_figures a → records ≡ held (buckets_of a) → Result r records
-  result a e r records f g = (f ∙ ap recorded_figures (sym e), g ∙ ap (λ (b : Answer Recorded). held (buckets_of b)) (sym e))
-
-  pub read-refused : (r : Answer PlanFigures) (n : ℕ) (records : Cutting) → r ≡ recorded_figures (plan_in bs) → plan_in bs ≡ refused n → records ≡ blank → Result r records
-  read-refused r n records e f = result (refused n) (sym (then_refused (plan_in bs) (fitting room) f)) r records (e ∙ ap recorded_figures f)
-
-  module _ (y : PlanFigures) (p : IsPlan bs y) (records : Cutting) where
-    count : length (buckets_in bs) ≡ y.buckets
-    count = length_items _ 12 (number_at 4 bs 8) buckets_offset ∙ p.is_count
-
-    pub read_full : leb y.buckets room ≡ false → records ≡ blank → Result (refused 6) records
-    read_full h =
-        let k : leb (length (buckets_in bs)) room ≡ false = ap (λ (n : ℕ). leb n room) count ∙ h in
-        let g = sym (then_figures (plan_in bs) (fitting room) p.is_read) ∙ ap (λ (ok : Bool). weigh ok 6 (figures (recorded_in bs))) k in
-        result (refused 6) g (refused 6) records refl
-
-    pub read_loaded : leb y.buckets room ≡ true → figures y ≡ recorded_figures (plan_in bs) → records ≡ held (figures (records_in y.buckets bs)) → Result (figures y) records
-    read_loaded h e f =
-        let g = read_fits room bs (recorded_in bs) p.is_read (omega (arith, count, leb-true y.buckets room h)) in
-        result (figures (recorded_in bs)) g (figures y) records (e ∙ ap recorded_figures p.is_read)
-        (f ∙ ap (λ (n : ℕ). held (figures (records_in n bs))) (sym p.is_count))
+  -- What is read is answered once its records are loaded.
+  pub read_loaded : (y : PlanFigures) → IsPlan bs y → leb y.buckets room ≡ true → figures y ≡ recorded_figures (plan_in bs)
+      → (records : Cutting) → records ≡ held (figures (records_in y.buckets bs))
+      → figures (record { figures = y; records = records }) ≡ on_figures in_array (read_plan room bs)
+  read_loaded y p h e records f =
+      let count : length (buckets_in bs) ≡ y.buckets = length_items _ 12 (number_at 4 bs 8) buckets_offset ∙ p.is_count in
+      let g = read_fits room bs (recorded_in bs) p.is_read (omega (arith, count, leb-true y.buckets room h)) in
+      let same : y ≡ figures_in (recorded_in bs) = same-figures (e ∙ ap recorded_figures p.is_read) in
+      let laid : records ≡ held (figures (buckets_in bs)) = f ∙ ap (λ (n : ℕ). held (figures (records_in n bs))) (sym p.is_count) in
+      ap₂ (λ (z : PlanFigures) (xs : Cutting). figures (record { figures = z; records = xs })) same laid
+      ∙ ap (on_figures in_array) (sym g)
 
 -- ---- Writing, rule by rule
 

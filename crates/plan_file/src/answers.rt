@@ -1,6 +1,6 @@
-// What a plan holds beside its bucket records, and what reading a plan file answers.
+// What a plan holds beside its bucket records, and a plan that is read.
+use terms::BucketRecord;
 use terms::limits::TRACE_LIMIT;
-use terms::{BucketRecord, Refusal};
 
 // T, the number of buckets and the cost.
 #[derive(Clone, Copy)]
@@ -10,9 +10,9 @@ pub struct PlanFigures {
     pub cost: u64,
 }
 
-// What reading a plan file answers, and at the front of an array the records of the plan read.
+// A plan that is read: its figures, and at the front of an array its records.
 #[derive(Clone, Copy)]
 pub struct PlanRecords {
-    pub answer: Result<PlanFigures, Refusal>,
+    pub figures: PlanFigures,
     pub records: [BucketRecord; TRACE_LIMIT],
 }

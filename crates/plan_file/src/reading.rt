@@ -1,42 +1,29 @@
 // The plan file read into an array of records. Public only for the crates above.
 ghost use Rattle.std.specs.Prelude.{◌≡◌};
+ghost use Rattle.terms.specs.Answer.{on_figures};
 ghost use Rattle.terms.specs.Refusals.{says};
-ghost use Rattle.record_list.specs.Held.{held};
-ghost use Rattle.plan_file.specs.Plan.{buckets_of, recorded_figures, plan_in, read_plan, VeryPlan};
+ghost use Rattle.plan_file.specs.Plan.{in_array, recorded_figures, plan_in, read_plan, VeryPlan};
 
 use crate::answers::{PlanFigures, PlanRecords};
 use crate::layout::{BUCKETS_OFFSET, COST_OFFSET, PLAN_KIND, RECORD_BYTES, counts_in_range};
 use crate::records::{load_array, records_in_file};
 use encoding::headers::placed;
 use encoding::numbers::{number_at, word_at};
-use record_list::arrays::blank_records;
 use terms::Refusal;
 use terms::limits::COST_LIMIT;
 
 // Plan reading for a list of `room` records.
-pub fn read_records(bytes: &[u8], room: usize) -> PlanRecords
-    ensures answer_value { says result.answer ≡ recorded_figures (read_plan room bytes.now) }
-    ensures records_value { result.records ≡ held (buckets_of (read_plan room bytes.now)) }
+pub fn read_records(bytes: &[u8], room: usize) -> Result<PlanRecords, Refusal>
+    ensures result_value { says result ≡ on_figures in_array (read_plan room bytes.now) }
     ensures very_plan { VeryPlan bytes.now (read_plan room bytes.now) }
 {
-    let answer = plan_in(bytes);
-    let Ok(plan) = answer else {
-        let records = blank_records();
-        return PlanRecords { answer, records };
-    };
-    let buckets = plan.buckets as usize;
+    let figures = plan_in(bytes)?;
+    let buckets = figures.buckets as usize;
     if room < buckets {
-        let records = blank_records();
-        return PlanRecords {
-            answer: Err(Refusal::List),
-            records,
-        };
+        return Err(Refusal::List);
     }
     let records = load_array(bytes, buckets);
-    PlanRecords {
-        answer: Ok(plan),
-        records,
-    }
+    Ok(PlanRecords { figures, records })
 }
 
 // Weighs all that a plan file holds: its figures, or refusal 1 to 5.

@@ -1,13 +1,16 @@
 -- From an order file to the series planned for it, on what is lent (01, "Series": the first calls of demand 3).
 -- Assumes nothing.
-use Rattle.std.specs.Prelude.{ℕ, List, length}
+use Rattle.std.specs.Prelude.{ℕ, List, length, replicate}
 use Rattle.terms.specs.Answer.{Answer, figures, refused, on_figures, and_then}
+use Rattle.terms.specs.Lent.{filled}
+use Rattle.terms.specs.Limits.{trace_limit}
 use Rattle.terms.specs.Records.{Cutting}
-use Rattle.terms.specs.Refusals.{number_of}
+use Rattle.record_list.specs.Held.{held}
 use Rattle.series.specs.Series.{true_cost_of, series_of}
 use Rattle.order_file.specs.declared.orders.Order.{Order}
 use Rattle.order_file.specs.Ordered.{ordered}
 use Rattle.planning.specs.declared.planned_orders.PlannedOrder.{PlannedOrder}
+use Rattle.planning.specs.declared.planned_orders.PlannedRecords.{PlannedRecords}
 
 -- What the calls up to planning give.
 pub record Planned : Type 0 where
@@ -29,5 +32,10 @@ planned space room bs = and_then (ordered space bs) (λ x. planned_runs x.order 
 abbrev pub planned_figures : Planned → PlannedOrder
 planned_figures x = record { order = x.order; plan = record { buckets = length x.cutting; cost = true_cost_of x.order.tariff x.cutting } }
 
-abbrev pub cutting_of : Answer Planned → Answer Cutting
-cutting_of = on_figures (λ x. x.cutting)
+-- 512 zeros.
+abbrev pub zeros : List ℕ
+zeros = replicate trace_limit 0
+
+-- The figures with the demands and the records at the fronts of two arrays, as they travel below the offered calls.
+abbrev pub planned_records : Planned → PlannedRecords
+planned_records x = record { found = planned_figures x; demands = filled (figures x.demands) zeros; records = held (figures x.cutting) }

@@ -2,15 +2,12 @@
 ghost use Rattle.std.specs.Prelude.{◌≡◌};
 ghost use Rattle.terms.specs.Answer.{on_figures};
 ghost use Rattle.terms.specs.Refusals.{says};
-ghost use Rattle.record_list.specs.Held.{blank};
-ghost use Rattle.planning.specs.declared.planned_orders.PlannedAnswer.TheVariants.{Refused};
-ghost use Rattle.planning.specs.CallLaws.{PlansOrder, with_order};
+ghost use Rattle.planning.specs.Planning.{planned, planned_records};
 
-use order_file::spreads::spread_order;
 use order_file::Order;
-use record_list::arrays::blank_records;
-use series::planner::plan_series;
+use order_file::spreads::spread_order;
 use series::Plan;
+use series::planner::plan_series;
 use terms::limits::TRACE_LIMIT;
 use terms::{BucketRecord, Refusal};
 
@@ -21,58 +18,30 @@ pub struct PlannedOrder {
     pub plan: Plan,
 }
 
-// The answer with the demands of an order that is read and the records of the plan found.
+// The same with the order's demands and the plan's records at the fronts of two arrays.
 #[derive(Clone, Copy)]
 pub struct PlannedRecords {
-    pub answer: Result<PlannedOrder, Refusal>,
+    pub found: PlannedOrder,
     pub demands: [u16; TRACE_LIMIT],
     pub records: [BucketRecord; TRACE_LIMIT],
 }
 
 // Reads the order, spreads its trace's part, and plans the series with the tariff read and the numbers
 // so spread, for a list of `space` demands and one of `room` records.
-pub fn plan_order(order: &[u8], space: usize, room: usize) -> PlannedRecords
-    ensures { PlansOrder order.now space room result }
+pub fn plan_order(order: &[u8], space: usize, room: usize) -> Result<PlannedRecords, Refusal>
+    ensures { says result ≡ on_figures planned_records (planned space room order.now) }
 {
     let mut demands = [0u16; TRACE_LIMIT];
-    let found = match spread_order(order, &mut demands) {
-        Ok(x) => x,
-        Err(why) => return refused(why, demands),
-    };
-    let periods = found.periods as usize;
+    let order = spread_order(order, &mut demands)?;
+    let periods = order.periods as usize;
     if space < periods {
-        return refused(Refusal::List, demands);
+        return Err(Refusal::List);
     }
-    let tariff = found.tariff;
-    let planned = plan_series(&demands[..periods], tariff, room);
-    let series = planned.answer;
-    let records = planned.records;
-    let answer = with_order(found, series);
-    PlannedRecords {
-        answer,
+    let series = plan_series(&demands[..periods], order.tariff, room)?;
+    let plan = series.plan;
+    Ok(PlannedRecords {
+        found: PlannedOrder { order, plan },
         demands,
-        records,
-    }
-}
-
-// A refusal, and no records.
-fn refused(why: Refusal, demands: [u16; TRACE_LIMIT]) -> PlannedRecords
-    ensures { result ≡ record { answer = Refused why; demands = demands; records = blank } }
-{
-    let records = blank_records();
-    PlannedRecords {
-        answer: Err(why),
-        demands,
-        records,
-    }
-}
-
-// The plan found with what the order says, or the refusal.
-fn with_order(order: Order, answer: Result<Plan, Refusal>) -> Result<PlannedOrder, Refusal>
-    ensures { says result ≡ on_figures (with_order order) (says answer) }
-{
-    match answer {
-        Ok(plan) => Ok(PlannedOrder { order, plan }),
-        Err(why) => Err(why),
-    }
+        records: series.records,
+    })
 }

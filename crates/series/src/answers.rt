@@ -1,6 +1,6 @@
 // What the series answers.
+use terms::BucketRecord;
 use terms::limits::TRACE_LIMIT;
-use terms::{BucketRecord, Refusal};
 
 // A plan's number of buckets and its cost.
 #[derive(Clone, Copy)]
@@ -9,9 +9,9 @@ pub struct Plan {
     pub cost: u64,
 }
 
-// The answer with the records of the plan found.
+// A plan found, with its records at the front of an array.
 #[derive(Clone, Copy)]
 pub struct SeriesRecords {
-    pub answer: Result<Plan, Refusal>,
+    pub plan: Plan,
     pub records: [BucketRecord; TRACE_LIMIT],
 }

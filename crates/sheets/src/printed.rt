@@ -18,12 +18,8 @@ pub fn sheet(order: &[u8], text: &mut [u8]) -> Result<usize, Refusal>
     ensures result_value { says result ≡ on_figures length (sheet_in (length text.old) order.now) }
     ensures text_after { text.new ≡ filled (sheet_in (length text.old) order.now) text.old }
 {
-    let planned = plan_order(order, TRACE_LIMIT, TRACE_LIMIT);
-    let answer = planned.answer;
-    let found = answer?;
-    let demands = planned.demands;
-    let records = planned.records;
+    let planned = plan_order(order, TRACE_LIMIT, TRACE_LIMIT)?;
     let mut ready = [0u8; LONGEST_SHEET];
-    let length = put_sheet(&mut ready, found, &demands, records);
+    let length = put_sheet(&mut ready, planned.found, &planned.demands, planned.records);
     fill(&ready[..length], text)
 }

@@ -19,10 +19,8 @@ fn greatest_demand(trace: &[u16]) -> u32
     ensures { result ≡ greatest trace.now }
 {
     let mut top: u32 = 0;
-    let mut i = 0;
-    while i < trace.len() {
-        top = top.max(trace[i] as u32);
-        i += 1;
+    for &demand in trace {
+        top = top.max(demand as u32);
     }
     top
 }

@@ -35,10 +35,8 @@ fn cheapest(trace: &[u16], tariff: Tariff) -> Result<Priced, Refusal>
     let periods = trace.len() as u64;
     let end = rates_to_weigh(trace, tariff);
     let mut best = Err(Refusal::NoPlan);
-    let mut next: u32 = 0;
-    while next < end {
+    for next in 0..end {
         let rate = Rate(next);
-        next += 1;
         let Ok(depth) = depth_at(trace, rate, tariff) else {
             continue;
         };

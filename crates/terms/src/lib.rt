@@ -13,11 +13,11 @@ pub use ranges::{
 pub use refusal::Refusal;
 
 // Tokens gained in each period. One token pays for one kilobit.
-#[derive(Clone, Copy)]
+#[derive(Clone, Copy, PartialEq, Eq)]
 pub struct Rate(pub u32);
 
 // Tokens that a bucket holds at the most.
-#[derive(Clone, Copy)]
+#[derive(Clone, Copy, PartialEq, Eq)]
 pub struct Depth(pub u32);
 
 // What one token of rate costs for one period.
@@ -35,14 +35,14 @@ pub struct Factor {
     pub q: u32,
 }
 
-#[derive(Clone, Copy)]
+#[derive(Clone, Copy, PartialEq, Eq)]
 pub struct Bucket {
     pub rate: Rate,
     pub depth: Depth,
 }
 
 // A bucket of a plan and the length of its run.
-#[derive(Clone, Copy)]
+#[derive(Clone, Copy, PartialEq, Eq)]
 pub struct BucketRecord {
     pub periods: u32,
     pub bucket: Bucket,

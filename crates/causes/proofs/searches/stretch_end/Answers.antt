@@ -71,10 +71,10 @@ pub overflow_add-need : goal.overflow_add-need
 overflow_add-need c = omega (arith, c.shared_slice_known-in-loop-last-1.given c.loop-last.last, c.loop-last.invariant.enough, c.requires.bucket_range.depths)
 
 pub returns-then-bucket-need : goal.returns-then-bucket-need
-returns-then-bucket-need c = sym (ap (λ (a : Answer ℕ). figure_or a (length c.args.trace.now)) (found c.loop-last.invariant c.loop-last-test.true _ c.short_by-need.ensures c.if-bucket-need.true))
+returns-then-bucket-need c = sym (ap (λ (a : Answer ℕ). figure_or a (length c.args.trace.now)) (found c.loop-last.invariant c.loop-last-test.true _ c.saturating_sub-need.ensures c.if-bucket-need.true))
 
 pub loop-last-preserved : goal.loop-last-preserved
-loop-last-preserved c = next c.loop-last.invariant c.loop-last-test.true _ c.short_by-need.ensures c.if-bucket-need.false
+loop-last-preserved c = next c.loop-last.invariant c.loop-last-test.true _ c.saturating_sub-need.ensures c.if-bucket-need.false
 
 pub returns : goal.returns
 returns c = end c.loop-last.invariant c.loop-last-test.false

@@ -29,14 +29,14 @@ module _ {r : ℕ} {ds : List ℕ} {w : Walk} {i : ℕ} (k : Walking r ds w i) w
   end : length ds ≤ i → w ≡ walk_of r ds
   end l = k.so_far ∙ ap (walk_of r) (take_all i ds l)
 
-pub loop-i-init : goal.loop-i-init
-loop-i-init c = start _ _ _ c.new-walk.ensures
+pub loop-demand-init : goal.loop-demand-init
+loop-demand-init c = start _ _ _ c.new-walk.ensures
 
 pub push-walk-requires : goal.push-walk-requires
-push-walk-requires c = record { walk_range = room c.loop-i.invariant c.requires.rate_le_rate_limit (record { each = λ i. omega (arith, c.shared_slice_known-1.given i) }) c.requires.periods_range.few c.loop-i-test.true; rate_le_rate_limit = c.requires.rate_le_rate_limit }
+push-walk-requires c = record { walk_range = room c.loop-demand.invariant c.requires.rate_le_rate_limit (record { each = λ i. omega (arith, c.type_inv.list i) }) c.requires.periods_range.few c.loop-demand-test.true; rate_le_rate_limit = c.requires.rate_le_rate_limit }
 
-pub loop-i-preserved : goal.loop-i-preserved
-loop-i-preserved c = step c.loop-i.invariant _ c.loop-i-test.true c.push-walk.ensures
+pub loop-demand-preserved : goal.loop-demand-preserved
+loop-demand-preserved c = step c.loop-demand.invariant _ c.loop-demand-test.true c.push-walk.ensures
 
 pub returns : goal.returns
-returns c = end c.loop-i.invariant c.loop-i-test.false
+returns c = end c.loop-demand.invariant c.loop-demand-test.false

@@ -18,8 +18,5 @@ pub record Walking (r : ℕ) (ds : List ℕ) (w : Walk) (i : ℕ) : Type 0 where
   pub inside : i ≤ length ds
   pub so_far : w ≡ walk_of r (take i ds)
 
-abbrev pub invariant-loop-i : goal.invariant-loop-i
-invariant-loop-i l = Walking l.rate.0 l.list l.walk l.i
-
-abbrev pub decreases-loop-i : goal.decreases-loop-i
-decreases-loop-i l = length l.list - l.i
+abbrev pub invariant-loop-demand : goal.invariant-loop-demand
+invariant-loop-demand l = Walking l.rate.0 l.list l.walk l.demand-index

@@ -58,7 +58,7 @@ pub loop-periods-smaller : goal.loop-periods-smaller
 loop-periods-smaller c = omega (arith, c.loop-periods-test.true)
 
 pub loop-periods-preserved : goal.loop-periods-preserved
-loop-periods-preserved c = step _ _ _ _ _ _ c.loop-periods.invariant c.requires.cost_range.few c.loop-periods-test.true _ _ _ c.billed_periods-billed.ensures c.stop_at-stop.ensures c.greater_charge-charge.ensures
+loop-periods-preserved c = step _ _ _ _ _ _ c.loop-periods.invariant c.requires.cost_range.few c.loop-periods-test.true _ _ _ c.billed_periods-billed.ensures c.stop_at-stop.ensures c.max-charge.ensures
 
 pub returns : goal.returns
 returns c = end _ _ _ _ _ _ c.loop-periods.invariant c.requires.cost_range.few c.loop-periods-test.false

@@ -21,13 +21,13 @@ overflow_add-low c =
 
 pub weigh_rates-best-requires : goal.weigh_rates-best-requires
 weigh_rates-best-requires c =
-    record { low_lt_end = omega (arith, c.lesser-next.ensures, c.loop-low-test.true); end_bound = omega (arith, c.lesser-next.ensures, c.rates_to_weigh-end.ensures, min-le_left c.args.tariff.rate_cap.0 (greatest c.args.trace.now)); searching = searching_on _ _ _ _ c.requires c.loop-low.invariant.weighed }
+    record { low_lt_end = omega (arith, c.min-next.ensures, c.loop-low-test.true); end_bound = omega (arith, c.min-next.ensures, c.rates_to_weigh-end.ensures, min-le_left c.args.tariff.rate_cap.0 (greatest c.args.trace.now)); searching = searching_on _ _ _ _ c.requires c.loop-low.invariant.weighed }
 
 pub loop-low-smaller : goal.loop-low-smaller
-loop-low-smaller c = omega (arith, c.lesser-next.ensures, c.loop-low-test.true)
+loop-low-smaller c = omega (arith, c.min-next.ensures, c.loop-low-test.true)
 
 pub loop-low-preserved : goal.loop-low-preserved
-loop-low-preserved c = record { inside = omega (arith, c.lesser-next.ensures); weighed = weighed_then _ _ _ _ c.loop-low.invariant.weighed c.weigh_rates-best.ensures }
+loop-low-preserved c = record { inside = omega (arith, c.min-next.ensures); weighed = weighed_then _ _ _ _ c.loop-low.invariant.weighed c.weigh_rates-best.ensures }
 
 pub returns : goal.returns
 returns c = turns_end _ _ _ _ _ _ _ _ _ _ c.rates_to_weigh-end.ensures c.loop-low.invariant c.loop-low-test.false

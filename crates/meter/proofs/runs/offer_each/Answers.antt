@@ -2,7 +2,8 @@
 -- a refusal is that of the next.
 use Prim.Native.Nat.{ℕ, ◌+◌, ◌≤◌, ◌<◌}
 use native.Mathlib.Numerals.{add-one}
-use mathlib.Core.Path.{◌≡◌, refl, sym, ap, ◌∙◌}
+use borrow.Author.Rules.{rules}
+use mathlib.Core.Path.{◌≡◌, sym, ap, ◌∙◌}
 use mathlib.Core.List.{List, ◌∷◌}
 use lib.ListN.{length, drop, get_or, drop_of_length-le}
 use lib.Seq.{drop-cons}
@@ -39,14 +40,13 @@ module _ (m : Meter) (ds : List ℕ) (i : ℕ) (whole : Answer Meter) (e : offer
   unfolding offers_of
   none_left l = ap (offers_of m) (sym (drop_of_length-le ds l)) ∙ e
 
-pub loop-i-init : goal.loop-i-init
-loop-i-init c = refl
+pub returns-in_err-offered : goal.returns-in_err-offered
+returns-in_err-offered c =
+    let e = refuses _ _ _ _ c.loop-demand.invariant c.loop-demand-test.true _ c.offer-offered.ensures _ (ap says c.in_err-offered.was) in
+    search rules
 
-pub returns-in-Err : goal.returns-in-Err
-returns-in-Err c = refuses _ _ _ _ c.loop-i.invariant c.loop-i-test.true _ c.offer-offered.ensures _ (ap says c.in-Err.is)
-
-pub loop-i-preserved : goal.loop-i-preserved
-loop-i-preserved c = goes_on _ _ _ _ c.loop-i.invariant c.loop-i-test.true _ c.offer-offered.ensures _ (ap says c.in_default.is)
+pub loop-demand-preserved : goal.loop-demand-preserved
+loop-demand-preserved c = goes_on _ _ _ _ c.loop-demand.invariant c.loop-demand-test.true _ c.offer-offered.ensures _ (ap says c.in_ok-offered.was)
 
 pub returns : goal.returns
-returns c = none_left _ _ _ _ c.loop-i.invariant c.loop-i-test.false
+returns c = none_left _ _ _ _ c.loop-demand.invariant c.loop-demand-test.false

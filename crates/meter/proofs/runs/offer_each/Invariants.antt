@@ -1,13 +1,9 @@
 -- What the offers that are left make of the record reached is what all of them make of the first;
 -- a refusal is that of the next.
-use Prim.Native.Nat.{◌-◌}
 use mathlib.Core.Path.{◌≡◌}
-use lib.ListN.{length, drop}
+use lib.ListN.{drop}
 use Rattle.meter.specs.Meter.{offers_of}
 use Rattle.meter.proofs.runs.offer_each.Given as goal
 
-abbrev pub invariant-loop-i : goal.invariant-loop-i
-invariant-loop-i l = offers_of l.meter (drop l.i l.demands) ≡ offers_of l.initial.meter l.demands
-
-abbrev pub decreases-loop-i : goal.decreases-loop-i
-decreases-loop-i l = length l.demands - l.i
+abbrev pub invariant-loop-demand : goal.invariant-loop-demand
+invariant-loop-demand l = offers_of l.meter (drop l.demand-index l.demands) ≡ offers_of l.initial.meter l.demands

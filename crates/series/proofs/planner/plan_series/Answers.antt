@@ -1,6 +1,6 @@
 -- Each refusal is the first rule that its test finds broken; past the tests the search gives the answer.
 use Prim.Native.Nat.{ℕ}
-use mathlib.Core.Path.{◌≡◌, subst}
+use mathlib.Core.Path.{◌≡◌, ap}
 use mathlib.Core.Bool.{true, false}
 use mathlib.Core.List.{List}
 use borrow.Author.Rules.{rules}
@@ -8,15 +8,11 @@ use borrow.Author.Tests.{le-leb, lt-leb}
 use lib.Dec.{leb}
 use lib.ListN.{length}
 use Rattle.terms.specs.declared.Tariff.{Tariff}
-use Rattle.terms.specs.Answer.{Answer, refused}
-use Rattle.terms.specs.Bools.{check_passed, check_failed}
+use Rattle.terms.specs.Answer.{Answer, refused, on_figures}
 use Rattle.terms.specs.Ranges.{periods_ok, tariff_ok}
 use Rattle.terms.specs.RangeLaws.{periods_range, tariff_range}
 use Rattle.terms.specs.Records.{Cutting}
-use Rattle.terms.specs.Refusals.{says}
-use Rattle.series.specs.Series.{cheapest_cut, plan_of, series_of}
-use Rattle.record_list.specs.Held.{held}
-use Rattle.series.specs.CallLaws.{refusal}
+use Rattle.series.specs.Series.{cheapest_cut, found_of, series_of}
 use mathlib.Core.Path.{sym, ◌∙◌}
 use Rattle.series.proofs.planner.plan_series.Goals as goal
 
@@ -42,28 +38,27 @@ module _ (t : Tariff) (room : ℕ) (ds : List ℕ) where
       unfolding series_of
       past-tests l = rw (h, k, l)
 
+module _ (s : Tariff) where
+  refuses : {n : ℕ} {a : Answer Cutting} → a ≡ refused n → refused n ≡ on_figures (found_of s) a
+  refuses e = sym (ap (on_figures (found_of s)) e)
+
 pub returns-then-not-periods_in_range : goal.returns-then-not-periods_in_range
 returns-then-not-periods_in_range c =
     let s = c.args in
-    let all = refusal _ _ _ _ c.refused.ensures (no-periods s.tariff s.room s.trace.now ((sym c.periods_in_range.ensures ∙ c.if-not-periods_in_range.true))) in
-    record { answer_value = all.0; records_value = all.1 }
+    refuses s.tariff (no-periods s.tariff s.room s.trace.now (sym c.periods_in_range.ensures ∙ c.if-not-periods_in_range.true))
 
 pub returns-then-not-tariff_in_range : goal.returns-then-not-tariff_in_range
 returns-then-not-tariff_in_range c =
     let periods : periods_ok (length c.args.trace.now) ≡ true = (sym c.periods_in_range.ensures ∙ c.if-not-periods_in_range.false) in
     let s = c.args in
-    let all = refusal _ _ _ _ c.refused-then-not-tariff_in_range.ensures
-    (no-tariff s.tariff s.room s.trace.now (periods) ((sym c.tariff_in_range.ensures ∙ c.if-not-tariff_in_range.true))) in
-    record { answer_value = all.0; records_value = all.1 }
+    refuses s.tariff (no-tariff s.tariff s.room s.trace.now periods (sym c.tariff_in_range.ensures ∙ c.if-not-tariff_in_range.true))
 
 pub returns-then-room-periods : goal.returns-then-room-periods
 returns-then-room-periods c =
     let periods : periods_ok (length c.args.trace.now) ≡ true = (sym c.periods_in_range.ensures ∙ c.if-not-periods_in_range.false) in
     let figures : tariff_ok c.args.tariff ≡ true = (sym c.tariff_in_range.ensures ∙ c.if-not-tariff_in_range.false) in
     let s = c.args in
-    let all = refusal _ _ _ _ c.refused-then-room-periods.ensures
-    (no_room s.tariff s.room s.trace.now (periods) (figures) (lt-leb _ _ c.if-room-periods.true)) in
-    record { answer_value = all.0; records_value = all.1 }
+    refuses s.tariff (no_room s.tariff s.room s.trace.now periods figures (lt-leb _ _ c.if-room-periods.true))
 
 pub cheapest-requires : goal.cheapest-requires
 cheapest-requires c =
@@ -76,7 +71,4 @@ returns c =
     let periods : periods_ok (length c.args.trace.now) ≡ true = (sym c.periods_in_range.ensures ∙ c.if-not-periods_in_range.false) in
     let figures : tariff_ok c.args.tariff ≡ true = (sym c.tariff_in_range.ensures ∙ c.if-not-tariff_in_range.false) in
     let s = c.args in
-    let all = subst (λ (a : Answer Cutting). (says c.cheapest.result.answer ≡ plan_of s.tariff a) × (c.cheapest.result.records ≡ held a))
-    (past-tests s.tariff s.room s.trace.now (periods) (figures) (le-leb _ _ c.if-room-periods.false))
-    (c.cheapest.ensures.answer_value, c.cheapest.ensures.records_value) in
-    record { answer_value = all.0; records_value = all.1 }
+    c.cheapest.ensures ∙ ap (on_figures (found_of s.tariff)) (past-tests s.tariff s.room s.trace.now periods figures (le-leb _ _ c.if-room-periods.false))

@@ -26,14 +26,11 @@ module _ (ds : List ℕ) (top i : ℕ) (k : Seen ds top i) where
   unfolding greatest
   end l = sym (max-zero top) ∙ (rw (drop_of_length-le ds l) at k.all)
 
-pub loop-i-init : goal.loop-i-init
-loop-i-init c = record { inside = omega arith; all = omega arith }
+pub loop-demand-init : goal.loop-demand-init
+loop-demand-init c = record { inside = omega arith; all = omega arith }
 
-pub overflow_cast-trace : goal.overflow_cast-trace
-overflow_cast-trace c = omega (arith, c.shared_slice_known-in-loop-i-1.given c.loop-i.i)
-
-pub loop-i-preserved : goal.loop-i-preserved
-loop-i-preserved c = step _ _ _ c.loop-i.invariant _ c.loop-i-test.true c.greater-top.ensures
+pub loop-demand-preserved : goal.loop-demand-preserved
+loop-demand-preserved c = step _ _ _ c.loop-demand.invariant _ c.loop-demand-test.true c.max-top.ensures
 
 pub returns : goal.returns
-returns c = end _ _ _ c.loop-i.invariant c.loop-i-test.false
+returns c = end _ _ _ c.loop-demand.invariant c.loop-demand-test.false

@@ -15,8 +15,5 @@ pub record Seen (ds : List ℕ) (top i : ℕ) : Type 0 where
   pub inside : i ≤ length ds
   pub all : max top (greatest (drop i ds)) ≡ greatest ds
 
-abbrev pub invariant-loop-i : goal.invariant-loop-i
-invariant-loop-i l = Seen l.trace l.top l.i
-
-abbrev pub decreases-loop-i : goal.decreases-loop-i
-decreases-loop-i l = length l.trace - l.i
+abbrev pub invariant-loop-demand : goal.invariant-loop-demand
+invariant-loop-demand l = Seen l.trace l.top l.demand-index

@@ -8,6 +8,7 @@ use mathlib.Core.List.{List}
 use borrow.Author.Rules.{rules}
 use borrow.Author.Tests.{le-leb}
 use lib.ListN.{length}
+use Rattle.std.specs.Prelude.{Err}
 use Rattle.terms.specs.declared.Tariff.{Tariff}
 use Rattle.terms.specs.Answer.{figures, refused}
 use Rattle.terms.specs.RangeRules.{PeriodsRange, TariffRange}
@@ -25,7 +26,7 @@ use Rattle.single.specs.RateLaws.{inside_cap, weighed-enough, dearer-enough}
 use Rattle.single.proofs.singles.cheapest.Invariants.{Weighing}
 use Rattle.single.proofs.singles.cheapest.Goals as goal
 
-start : (t : Tariff) (ds : List ℕ) (end : ℕ) → Weighing t ds end (Refused NoPlan) 0
+start : (t : Tariff) (ds : List ℕ) (end : ℕ) → Weighing t ds end (Err NoPlan) 0
 unfolding best_of
 start t ds end = record { inside = omega arith; so_far = refl }
 

@@ -13,7 +13,8 @@ use Rattle.terms.specs.Answer.{figures, refused}
 use Rattle.terms.specs.RangeRules.{PeriodsRange, TariffRange}
 use Rattle.terms.specs.RangeLaws.{tariff_ok_lem, periods_ok_lem}
 use Rattle.terms.specs.Bools.{both_and}
-use Rattle.terms.specs.declared.refusal.Refusal.TheVariants.{NoPlan}
+use Rattle.terms.specs.declared.refusal.Refusal.{Refusal}
+use Rattle.std.specs.Prelude.{Result}
 use Rattle.terms.specs.Refusals.{says}
 use Rattle.depth.specs.Depth.{tariff_depth, depth_of, depth_says}
 use Rattle.depth.specs.DepthLaws.{depth_in_range, depth-within}
@@ -24,12 +25,9 @@ use Rattle.single.specs.BestLaws.{best_next}
 use Rattle.single.specs.RateLaws.{inside_cap, weighed-enough, dearer-enough}
 use Rattle.single.proofs.singles.cheapest.Given as goal
 
-pub record Weighing (t : Tariff) (ds : List ℕ) (end : ℕ) (best : (Result Priced Refusal)) (k : ℕ) : Type 0 where
+pub record Weighing (t : Tariff) (ds : List ℕ) (end : ℕ) (best : Result Priced Refusal) (k : ℕ) : Type 0 where
   pub inside : k ≤ end
   pub so_far : says best ≡ best_of t ds k
 
 abbrev pub invariant-loop-next : goal.invariant-loop-next
 invariant-loop-next l = Weighing l.tariff l.trace l.end l.best l.next
-
-abbrev pub decreases-loop-next : goal.decreases-loop-next
-decreases-loop-next l = l.end - l.next

@@ -71,4 +71,4 @@ rounded_up-fresh-requires c =
     record { le_p = some a.factor.p a.cap.0 (a.self.opening * a.factor.q) (fits) c.if-opening-eq0.false; p_le_parts_limit = le_trans h.part h.few; x_bound = le_trans (fits) (cap-product) }
 
 pub returns : goal.returns
-returns c = some-opening _ _ _ _ c.if-not-met.false _ _ c.rounded_up-fresh.ensures c.greater.ensures
+returns c = some-opening _ _ _ _ c.if-not-met.false _ _ c.rounded_up-fresh.ensures c.max.ensures
