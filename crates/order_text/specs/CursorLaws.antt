@@ -124,21 +124,20 @@ scan_begin text xs m e l =
 
 module _ {text xs : List ℕ} {c : Cursor} {i : ℕ} (s : Scanning text xs c i) where
   -- A step from there.
-  module _ (l : i < length text) (r : Step) (xs' : List ℕ) (e : step_says r xs' ≡ after_byte (scan_of c xs) (get_or text i 0)) where
-    pub scan_next : (d : Cursor) → r ≡ Ok d → StepFits r → length xs' ≡ length xs → Scanning text xs' d (i + 1)
-    scan_next d k f m =
-        let h : after_byte (scan_of c xs) (get_or text i 0) ≡ read (scan_of d xs') = sym e ∙ ap (λ (x : Step). step_says x xs') k in
-        let p = subst (At (c.place + 1) c.place) h (after-at (scan_of c xs) (get_or text i 0)) in
+  module _ (l : i < length text) where
+    pub scan_next : (xs' : List ℕ) (d : Cursor) → read (scan_of d xs') ≡ after_byte (scan_of c xs) (get_or text i 0) → Fits d → length xs' ≡ length xs → Scanning text xs' d (i + 1)
+    scan_next xs' d e f m =
+        let p = subst (At (c.place + 1) c.place) (sym e) (after-at (scan_of c xs) (get_or text i 0)) in
         record {
-          left = sym (scanned_next (scan_of c xs) text i _ l h) ∙ s.left;
-          fits = subst StepFits k f;
-          lines = omega (arith, s.lines, goes_line (goes (scan_of c xs) (scan_of d xs') (get_or text i 0) h));
+          left = sym (scanned_next (scan_of c xs) text i _ l (sym e)) ∙ s.left;
+          fits = f;
+          lines = omega (arith, s.lines, goes_line (goes (scan_of c xs) (scan_of d xs') (get_or text i 0) (sym e)));
           place = omega (arith, s.place, p);
           same = m ∙ s.same;
         }
 
-    pub scan_fault : (x : Fault) → r ≡ Err x → faulty x ≡ whole_scan text
-    scan_fault x k = sym (scanned_next (scan_of c xs) text i _ l (sym e ∙ ap (λ (y : Step). step_says y xs') k)) ∙ s.left
+    pub scan_fault : (x : Fault) → faulty x ≡ after_byte (scan_of c xs) (get_or text i 0) → faulty x ≡ whole_scan text
+    scan_fault x e = sym (scanned_next (scan_of c xs) text i _ l (sym e)) ∙ s.left
 
   pub scan_end : length text ≤ i → read (scan_of c xs) ≡ whole_scan text
   scan_end l = sym (scanned_end (scan_of c xs) text i l) ∙ s.left
