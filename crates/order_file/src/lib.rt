@@ -3,6 +3,7 @@
 #![tactic(auto)]
 
 mod ends;
+pub mod ordered;
 mod orders;
 pub mod spreads;
 mod traces;

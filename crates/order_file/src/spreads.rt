@@ -6,9 +6,9 @@ ghost use Rattle.terms.specs.Lent.{filled};
 ghost use Rattle.terms.specs.Refusals.{says};
 ghost use Rattle.order_file.specs.Ordered.{SpreadsOrder};
 
-use terms::Refusal;
 use crate::orders::{Order, read_order, trace_part};
 use crate::traces::spread;
+use terms::Refusal;
 
 // Reads the order and spreads its trace's part into the demands; or refusal 1 to 6, and the demands
 // are as they were.
@@ -25,9 +25,5 @@ pub fn store_demands(demands: &[u16], list: &mut [u16])
     requires { length demands.now ≤ length list.old }
     ensures { list.new ≡ filled (figures demands.now) list.old }
 {
-    let mut i = 0;
-    while i < demands.len() {
-        list[i] = demands[i];
-        i += 1;
-    }
+    list[..demands.len()].copy_from_slice(demands);
 }

@@ -43,13 +43,8 @@ fn load_demands(part: &[u8], demands: &mut [u16])
     requires { length (demands_in part.now) ≤ length demands.old }
     ensures { demands.new ≡ sets demands.old 0 (demands_in part.now) }
 {
-    let periods = part.len() / 2;
-    let mut at = 0;
-    let mut i = 0;
-    while i < periods {
-        demands[i] = number_at(part, at, 2) as u16;
-        at += 2;
-        i += 1;
+    for i in 0..part.len() / 2 {
+        demands[i] = number_at(part, 2 * i, 2) as u16;
     }
 }
 
@@ -59,10 +54,8 @@ pub(crate) fn put_demands(bytes: &mut [u8], at: usize, trace: &[u16])
     ensures { bytes.new ≡ sets bytes.old at (bytes_of_all (bytes_of 2) trace.now) }
 {
     let mut next = at;
-    let mut i = 0;
-    while i < trace.len() {
-        put_number(bytes, next, 2, trace[i] as u64);
+    for &demand in trace {
+        put_number(bytes, next, 2, demand as u64);
         next += 2;
-        i += 1;
     }
 }

@@ -6,16 +6,18 @@ use Rattle.std.proofs.Common.{arith, ◌∙◌, leb-true, length-take-le}
 use Rattle.std.proofs.Math.Path.{refl, sym, ap}
 use Rattle.std.proofs.Math.Bool.{true, false}
 use Rattle.std.proofs.Math.Dec.{leb}
-use Rattle.terms.specs.Answer.{Answer, figures, refused}
-use Rattle.terms.specs.AnswerLaws.{then_found, weigh-figures}
+use Rattle.terms.specs.Answer.{Answer, figures, refused, on_figures}
+use Rattle.terms.specs.AnswerLaws.{on_figures_lem, then_found, weigh-figures}
+use Rattle.terms.specs.Lent.{filled}
 use Rattle.terms.specs.Limits.{trace_limit}
 use Rattle.terms.specs.Records.{Cutting}
 use Rattle.encoding.specs.Number.{number_at}
 use Rattle.encoding.specs.NumberLaws.{length_items}
 use Rattle.record_list.specs.Held.{counted, held}
-use Rattle.record_list.specs.HeldLaws.{counted_on, held-records}
+use Rattle.record_list.specs.HeldLaws.{counted_on, held-records, stored-held}
 use Rattle.plan_file.specs.declared.answers.PlanFigures.{PlanFigures}
-use Rattle.plan_file.specs.Plan.{Recorded, buckets_offset, buckets_of, counts_ok, fitting, plan_file, plan_in, read_plan, recorded_figures}
+use Rattle.plan_file.specs.declared.answers.PlanRecords.{PlanRecords}
+use Rattle.plan_file.specs.Plan.{Recorded, buckets_offset, buckets_of, counts_ok, fitting, in_array, plan_file, plan_in, read_plan, recorded_figures}
 use Rattle.plan_file.specs.PlanRules.{counts_range, read_rules, write_periods}
 
 module _ (room : ℕ) (bs : List ℕ) where
@@ -42,6 +44,27 @@ module _ (room : ℕ) (bs : List ℕ) where
       go (refused m) f =
           let k : n ≡ 0 = e ∙ ap (λ (b : Answer Recorded). counted length (buckets_of b)) f in
           (omega (arith, k), omega (arith, k))
+
+-- A plan that is read, with its records at the front of an array.
+module _ (room : ℕ) (bs : List ℕ) (x : PlanRecords) (e : figures x ≡ on_figures in_array (read_plan room bs)) where
+  found : (y : Recorded) × (read_plan room bs ≡ figures y) × (in_array y ≡ x)
+  found = on_figures_lem in_array (read_plan room bs) (sym e)
+
+  pub figures-read : figures x.figures ≡ recorded_figures (read_plan room bs)
+  figures-read = ap (λ (z : PlanRecords). figures z.figures) (sym found.2) ∙ ap recorded_figures (sym found.1)
+
+  pub records-read : x.records ≡ held (buckets_of (read_plan room bs))
+  records-read = ap (λ (z : PlanRecords). z.records) (sym found.2) ∙ ap (λ (a : Answer Recorded). held (buckets_of a)) (sym found.1)
+
+  found-count : x.figures.buckets ≡ counted length (buckets_of (read_plan room bs))
+  found-count = ap (λ (z : PlanRecords). z.figures.buckets) (sym found.2) ∙ ap (λ (a : Answer Recorded). counted length (buckets_of a)) (sym found.1)
+
+  -- Its records fit the lent list, and stored there they fill it as reading does.
+  pub found_fits : (x.figures.buckets ≤ room) × (x.figures.buckets ≤ trace_limit)
+  found_fits = count_fits room bs x.figures.buckets found-count
+
+  pub found_fills : (old : Cutting) → filled (figures (take x.figures.buckets x.records)) old ≡ filled (buckets_of (read_plan room bs)) old
+  found_fills old = stored-held (buckets_of (read_plan room bs)) x.records old x.figures.buckets records-read found-count
 
 -- ---- Writing
 

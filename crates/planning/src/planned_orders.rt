@@ -4,25 +4,17 @@ ghost use Rattle.terms.specs.Answer.{on_figures};
 ghost use Rattle.terms.specs.Refusals.{says};
 ghost use Rattle.planning.specs.Planning.{planned, planned_records};
 
-use order_file::Order;
-use order_file::spreads::spread_order;
+use order_file::ordered::Ordered;
 use series::Plan;
 use series::planner::plan_series;
 use terms::limits::TRACE_LIMIT;
 use terms::{BucketRecord, Refusal};
 
-// What an order says and the plan found for it.
-#[derive(Clone, Copy)]
-pub struct PlannedOrder {
-    pub order: Order,
-    pub plan: Plan,
-}
-
-// The same with the order's demands and the plan's records at the fronts of two arrays.
-#[derive(Clone, Copy)]
+// An order with its trace, the plan found for it, and the plan's records at the front of an array.
+#[derive(Drop)]
 pub struct PlannedRecords {
-    pub found: PlannedOrder,
-    pub demands: [u16; TRACE_LIMIT],
+    pub order: Ordered,
+    pub plan: Plan,
     pub records: [BucketRecord; TRACE_LIMIT],
 }
 
@@ -31,17 +23,17 @@ pub struct PlannedRecords {
 pub fn plan_order(order: &[u8], space: usize, room: usize) -> Result<PlannedRecords, Refusal>
     ensures { says result ≡ on_figures planned_records (planned space room order.now) }
 {
-    let mut demands = [0u16; TRACE_LIMIT];
-    let order = spread_order(order, &mut demands)?;
-    let periods = order.periods as usize;
-    if space < periods {
+    let order = Ordered::read(order)?;
+    let trace = order.trace();
+    if space < trace.len() {
         return Err(Refusal::List);
     }
-    let series = plan_series(&demands[..periods], order.tariff, room)?;
+    let series = plan_series(trace, order.order().tariff, room)?;
     let plan = series.plan;
+    let records = series.records;
     Ok(PlannedRecords {
-        found: PlannedOrder { order, plan },
-        demands,
-        records: series.records,
+        order,
+        plan,
+        records,
     })
 }

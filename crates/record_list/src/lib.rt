@@ -4,3 +4,4 @@
 
 pub mod arrays;
 pub mod copies;
+pub mod records;

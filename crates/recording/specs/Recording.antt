@@ -6,12 +6,14 @@ use Rattle.terms.specs.Answer.{Answer, figures, refused, weigh, on_figures, and_
 use Rattle.terms.specs.Ranges.{factor_ok}
 use Rattle.terms.specs.Records.{Cutting, run_length, total}
 use Rattle.terms.specs.Refusals.{number_of}
+use Rattle.record_list.specs.Held.{held}
 use Rattle.meter.specs.declared.meters.Meter.{Meter}
 use Rattle.meter.specs.Meter.{meter_run}
 use Rattle.plan_file.specs.declared.answers.PlanFigures.{PlanFigures}
 use Rattle.plan_file.specs.Plan.{Recorded, read_plan}
 use Rattle.recording.specs.declared.metering.MeterTotals.{MeterTotals}
 use Rattle.recording.specs.declared.recorded.Booking.{Booking}
+use Rattle.recording.specs.declared.recorded.BookingRecords.{BookingRecords}
 
 -- What recording a plan gives: the bytes written, what is read back from them, and the meters of its runs.
 pub record Recording : Type 0 where
@@ -52,3 +54,6 @@ booking_of x =
       meters = totals_of x.meters;
     }
 
+-- That booking, and at the front of an array the records read back.
+abbrev pub booked : Recording → BookingRecords
+booked x = record { booking = booking_of x; records = held (figures x.plan.buckets) }

@@ -1,16 +1,14 @@
 // A plan that was found, recorded: written, read back and metered. Public only for the crate above,
 // which shows what is required.
 ghost use Rattle.std.specs.Prelude.{◌≡◌, length, take};
-ghost use Rattle.terms.specs.Answer.{on_figures};
-ghost use Rattle.terms.specs.Refusals.{number_of, says};
+ghost use Rattle.terms.specs.Refusals.{says};
 ghost use Rattle.plan_file.specs.Plan.{plan_file};
-ghost use Rattle.recording.specs.RecordingLaws.{RecordsPlan, Refuses, with_meters};
+ghost use Rattle.recording.specs.RecordingLaws.{RecordsPlan};
 
 use crate::metering::{MeterTotals, meter_runs};
 use plan_file::reading::read_records;
 use plan_file::writing::write_records;
 use plan_file::PlanFigures;
-use record_list::arrays::blank_records;
 use terms::limits::TRACE_LIMIT;
 use terms::{BucketRecord, Factor, Refusal, factor_in_range};
 
@@ -23,10 +21,10 @@ pub struct Booking {
     pub meters: MeterTotals,
 }
 
-// What recording a plan answers, and at the front of an array the records read back.
+// What recording a plan gives: the booking, and at the front of an array the records read back.
 #[derive(Clone, Copy)]
 pub struct BookingRecords {
-    pub answer: Result<Booking, Refusal>,
+    pub booking: Booking,
     pub records: [BucketRecord; TRACE_LIMIT],
 }
 
@@ -41,59 +39,29 @@ pub fn record_plan(
     records: [BucketRecord; TRACE_LIMIT],
     bytes: &mut [u8],
     space: usize,
-) -> BookingRecords
+) -> Result<BookingRecords, Refusal>
     requires { plan.periods ≡ length trace.now }
     ensures { RecordsPlan plan (plan_file room (length bytes.old) plan (take plan.buckets records))
-        factor trace.now bytes.old space bytes.new result }
+        factor trace.now bytes.old space bytes.new (says result) }
 {
     if !factor_in_range(factor) {
-        return refused(Refusal::Figure);
+        return Err(Refusal::Figure);
     }
-    let buckets = plan.buckets as usize;
-    if space < buckets {
-        return refused(Refusal::List);
+    if space < plan.buckets as usize {
+        return Err(Refusal::List);
     }
-    let length = match write_records(plan, room, records, bytes) {
-        Ok(n) => n,
-        Err(why) => return refused(why),
+    let length = write_records(plan, room, records, bytes)?;
+    let back = read_records(&bytes[..length], space)?;
+    let found = back.figures;
+    let read = back.records;
+    let meters = meter_runs(trace, factor, found.buckets as usize, read)?;
+    let booking = Booking {
+        plan: found,
+        length,
+        meters,
     };
-    let recorded = read_records(&bytes[..length], space);
-    let answer = recorded.answer;
-    let back = recorded.records;
-    match answer {
-        Ok(found) => {
-            let meters = meter_runs(trace, factor, found.buckets as usize, back);
-            let answer = with_meters(found, length, meters);
-            BookingRecords {
-                answer,
-                records: back,
-            }
-        }
-        Err(why) => refused(why),
-    }
-}
-
-// A refusal, with no records.
-fn refused(why: Refusal) -> BookingRecords
-    ensures { Refuses (number_of why) result }
-{
-    let records = blank_records();
-    BookingRecords {
-        answer: Err(why),
-        records,
-    }
-}
-
-// The booking with what the meters ended with, or a meter's refusal.
-fn with_meters(plan: PlanFigures, length: usize, answer: Result<MeterTotals, Refusal>) -> Result<Booking, Refusal>
-    ensures { says result ≡ on_figures (with_meters plan length) (says answer) }
-{
-    match answer {
-        Ok(meters) => Ok(Booking {
-            plan,
-            length,
-            meters,
-        }),
-        Err(why) => Err(why),
-    }
+    Ok(BookingRecords {
+        booking,
+        records: read,
+    })
 }

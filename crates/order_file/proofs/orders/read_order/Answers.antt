@@ -42,12 +42,6 @@ returns-then-not-placed c =
     let e = ap (λ (n : ℕ). placed_as 8 tariff_offset trace_offset (order_length n) bs) (sym c.word_at-periods.ensures) in
     record { result_value = sym (order_misplaced _ (long) (kind) (counts) (e ∙ (sym c.placed.ensures ∙ c.if-not-placed.true))); very_order = tt }
 
-pub tariff_in-tariff-requires : goal.tariff_in-tariff-requires
-tariff_in-tariff-requires c =
-    let places : order_placed c.args.bytes.now ≡ true = let bs = c.args.bytes.now in ap (λ (n : ℕ). placed_as 8 tariff_offset trace_offset (order_length n) bs) (sym c.word_at-periods.ensures) ∙ (sym c.placed.ensures ∙ c.if-not-placed.false) in
-    let bs = c.args.bytes.now in
-    omega (arith, (placed_range 8 tariff_offset trace_offset (order_length (number_at 4 bs 4)) bs (places)).bytes)
-
 pub returns-then-not-tariff_in_range : goal.returns-then-not-tariff_in_range
 returns-then-not-tariff_in_range c =
     let long : leb tariff_offset (length c.args.bytes.now) ≡ true = le-leb _ _ c.if-bytes-lt-TARIFF_OFFSET.false in

@@ -27,6 +27,3 @@ pub returns-in-Ok : goal.returns-in-Ok
 returns-in-Ok c =
     let is_read : (o : Order) × (read_order c.args.bytes.now ≡ figures o) = (_, sym c.read_order.ensures.result_value ∙ ap says c.in-Ok.is) in
     part_to_end c.args.bytes.now trace_offset ∙ sym (part-read _ _ (is_read).1)
-
-pub returns-in-Err : goal.returns-in-Err
-returns-in-Err c = sym (part-refused _ _ (sym c.read_order.ensures.result_value ∙ ap says c.in-Err.is))

@@ -36,17 +36,6 @@ returns-then-bytes-length c =
     let all = fill_refused _ s.bytes.now 6 (write_room _ _ _ (counts) (figures) (lt-leb _ _ c.if-bytes-length.true)) in
     record { result_value = all.0; bytes_after = all.1 }
 
-pub overflow_cast-periods : goal.overflow_cast-periods
-overflow_cast-periods c =
-    let counts : periods_ok (length c.args.trace.now) ≡ true = (sym c.periods_in_range.ensures ∙ c.if-not-periods_in_range.false) in
-    let s = c.args in
-    omega (arith, (periods_range (length s.trace.now) (counts)).few)
-
-pub put_header-requires : goal.put_header-requires
-put_header-requires c =
-    let counts : periods_ok (length c.args.trace.now) ≡ true = (sym c.periods_in_range.ensures ∙ c.if-not-periods_in_range.false) in
-    record { in_bounds = omega (arith, c.if-bytes-length.false); periods_range = periods_range _ (counts) }
-
 pub returns : goal.returns
 returns c =
     let counts : periods_ok (length c.args.trace.now) ≡ true = (sym c.periods_in_range.ensures ∙ c.if-not-periods_in_range.false) in

@@ -2,6 +2,7 @@
 -- since the run lengths sum to its length.
 use Prim.Native.Nat.{◌+◌, ◌≤◌}
 use native.Mathlib.Omega.{arith}
+use borrow.Author.Rules.{rules}
 use mathlib.Core.Path.{◌≡◌, sym, ap, ◌∙◌}
 use lib.ListN.{length, take, drop, get_or, length-take, length-drop}
 use Rattle.terms.specs.Answer.{figures}
@@ -47,11 +48,12 @@ slice_bounds-meter_run-end c =
     let inside : let s = c.args in c.loop-i.start + (get_or s.records c.loop-i.i no_record).periods ≤ length s.trace.now = let l = c.loop-i in run_inside c.args.buckets c.args.records c.args.trace.now l.start l.i l.invariant.begins (fits) c.loop-i-test.true in
     inside
 
-pub returns-in-Err : goal.returns-in-Err
-returns-in-Err c =
+pub returns-in_err-meter : goal.returns-in_err-meter
+returns-in_err-meter c =
     let fits : c.args.buckets ≤ length c.args.records = let l = c.requires.counts_range in omega (arith, l.few, l.periods.few) in
     let ran : let l = c.loop-i in let s = c.args in let x = get_or s.records l.i no_record in says c.meter_run.result ≡ meter_run x.bucket s.factor (take x.periods (drop l.start s.trace.now)) = let l = c.loop-i in let s = c.args in let x = get_or s.records l.i no_record in c.meter_run.ensures ∙ ap (meter_run x.bucket s.factor) (part-is s.trace.now l.start x.periods) in
-    run-refused _ _ _ _ c.loop-i.invariant (fits) c.loop-i-test.true _ (ran) _ (ap says c.in-Err.is)
+    let e = run-refused _ _ _ _ c.loop-i.invariant (fits) c.loop-i-test.true _ (ran) _ (ap says c.in_err-meter.was) in
+    search rules
 
 pub with-totals-requires : goal.with-totals-requires
 with-totals-requires c =
@@ -66,7 +68,7 @@ with-totals-requires c =
         losts = omega (arith, few.losts, t, l.few, l.periods.few);
         helds = omega (arith, few.helds, t, l.few, l.periods.few);
       };
-      sound = sound _ (ap says c.in-Ok.is);
+      sound = sound _ (ap says c.in_ok-meter.was);
     }
 
 pub overflow_add-i : goal.overflow_add-i
@@ -79,7 +81,7 @@ loop-i-preserved c =
     let fits : c.args.buckets ≤ length c.args.records = let l = c.requires.counts_range in omega (arith, l.few, l.periods.few) in
     let ran : let l = c.loop-i in let s = c.args in let x = get_or s.records l.i no_record in says c.meter_run.result ≡ meter_run x.bucket s.factor (take x.periods (drop l.start s.trace.now)) = let l = c.loop-i in let s = c.args in let x = get_or s.records l.i no_record in c.meter_run.ensures ∙ ap (meter_run x.bucket s.factor) (part-is s.trace.now l.start x.periods) in
     let sound : (m : Meter) → says c.meter_run.result ≡ figures m → Sound m = λ m e. let l = c.loop-i in let ds = c.args.trace.now in let x = get_or c.args.records l.i no_record in let h : Demands ds = record { each = λ j. omega (arith, c.type_inv.trace j) } in metered-sound x.bucket c.args.factor (take x.periods (drop l.start ds)) (demands-take x.periods _ (demands-drop l.start ds h)) (omega (arith, c.requires.counts_range.periods.few, length-take x.periods (drop l.start ds), length-drop l.start ds)) m (sym (ran) ∙ e) in
-    let e = ap says c.in-Ok.is in
+    let e = ap says c.in_ok-meter.was in
     one_metered _ _ _ _ c.loop-i.invariant (fits) c.loop-i-test.true _ (ran) _ e (sound _ e) _ c.with-totals.ensures
 
 pub returns : goal.returns
