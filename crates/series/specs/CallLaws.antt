@@ -1,6 +1,6 @@
 -- What the series call answers and what is stored in the lent list: as many records as buckets, and none on a refusal.
 -- Assumes nothing.
-use Rattle.std.specs.Prelude.{ℕ, ◌≤◌, ◌≡◌, refl, List, leb, length}
+use Rattle.std.specs.Prelude.{ℕ, ◌≤◌, ◌≡◌, refl, List, Err, leb, length}
 use Rattle.std.proofs.Common.{arith, ap, ◌∙◌}
 use Rattle.terms.specs.declared.Tariff.{Tariff}
 use Rattle.terms.specs.Answer.{Answer, figures, refused, weigh}
@@ -20,7 +20,7 @@ use Rattle.series.specs.Series.{cheapest_cut, plan_of, series_of}
 use Rattle.series.specs.SeriesLaws.{series-cheapest, series-room}
 
 -- A refusal is answered, and there are no records.
-module _ (t : Tariff) (a : Answer Cutting) (why : Refusal) (r : SeriesRecords) (e : r ≡ record { answer = Refused why; records = blank }) where
+module _ (t : Tariff) (a : Answer Cutting) (why : Refusal) (r : SeriesRecords) (e : r ≡ record { answer = Err why; records = blank }) where
   pub refusal : a ≡ refused (number_of why) → (says r.answer ≡ plan_of t a) × (r.records ≡ held a)
   refusal f = rw (e, f) (refl, refl)
 

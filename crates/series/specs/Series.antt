@@ -6,7 +6,6 @@ use Rattle.std.specs.Prelude.{ℕ, ◌≤◌, ◌≡◌, Bool, false, List, leb,
 use Rattle.terms.specs.declared.BucketRecord.{BucketRecord}
 use Rattle.terms.specs.declared.Tariff.{Tariff}
 use Rattle.terms.specs.Answer.{Answer, figures, refused, weigh, on_figures}
-use Rattle.terms.specs.Refusals.{number_of}
 use Rattle.terms.specs.Ranges.{periods_ok, tariff_ok}
 use Rattle.terms.specs.Records.{Cutting, run_length, total}
 use Rattle.single.specs.declared.costs.Priced.{Priced}
