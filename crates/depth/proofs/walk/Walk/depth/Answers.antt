@@ -3,9 +3,8 @@
 use Prim.Native.Nat.{ℕ, zero, suc, ◌*◌, ◌≤◌, ◌<◌, max}
 use native.Mathlib.Omega.{arith}
 use native.Mathlib.Nat.{max-zero}
-use mathlib.Core.Path.{◌≡◌, ap, ◌∙◌}
-use mathlib.Core.Bool.{◌&&◌, false, and-false}
-use borrow.Author.Rules.{rules}
+use mathlib.Core.Path.{◌≡◌, ◌∙◌}
+use mathlib.Core.Bool.{and-false}
 use borrow.Author.Tests.{le-leb, lt-leb}
 use lib.Dec.{leb}
 use Rattle.std.specs.Int.{div_ceil}
@@ -46,8 +45,8 @@ module _ (p q cap : ℕ) (w : Walk) where
 pub returns-then-cap-self : goal.returns-then-cap-self
 returns-then-cap-self c =
     elim c.then-cap-self.branch [
-      then-cap-self-via-then-cap-self w ↦ held-too-much _ _ _ _ w.if-cap-self.true
-    | then-cap-self-via-else-cap-self+then-most-opening w ↦ opened-too-much _ _ _ _ w.if-most-opening.true
+      | then-cap-self-via-then-cap-self w ↦ held-too-much _ _ _ _ w.if-cap-self.true
+      | then-cap-self-via-else-cap-self+then-most-opening w ↦ opened-too-much _ _ _ _ w.if-most-opening.true
     ]
 
 pub returns-then-opening-eq0 : goal.returns-then-opening-eq0
