@@ -43,3 +43,54 @@ returns-then-list-buckets c =
     let cost : leb c.args.plan.cost cost_limit ≡ true = le-leb _ _ (omega arith) in
     let all = fill_refused _ c.args.bytes.now 6 (write_list _ _ _ _ (counts) (cost) (lt-leb _ _ c.if-list-buckets.true)) in
     record { result_value = all.0; bytes_after = all.1 }
+
+pub records_in_range-requires : goal.records_in_range-requires
+records_in_range-requires c =
+    let counts : let s = c.args in counts_ok s.plan.periods s.plan.buckets ≡ true = (sym c.counts_in_range.ensures ∙ c.if-not-counts_in_range.false) in
+    let few : c.args.plan.buckets ≤ trace_limit = let a = c.args in let r = counts_range a.plan.periods a.plan.buckets (counts) in omega (arith, r.few, r.periods.few) in
+    omega (arith, few, length-take c.args.plan.buckets c.args.list.now)
+
+pub returns-then-not-records_in_range : goal.returns-then-not-records_in_range
+returns-then-not-records_in_range c =
+    let counts : let s = c.args in counts_ok s.plan.periods s.plan.buckets ≡ true = (sym c.counts_in_range.ensures ∙ c.if-not-counts_in_range.false) in
+    let cost : leb c.args.plan.cost cost_limit ≡ true = le-leb _ _ (omega arith) in
+    let list : let s = c.args in leb s.plan.buckets (length s.list.now) ≡ true = le-leb _ _ c.if-list-buckets.false in
+    let all = fill_refused _ c.args.bytes.now 5
+    (write_records _ _ _ _ (counts) (cost) (list) ((sym c.records_in_range.ensures ∙ c.if-not-records_in_range.true))) in
+    record { result_value = all.0; bytes_after = all.1 }
+
+pub returns-then-bytes-length : goal.returns-then-bytes-length
+returns-then-bytes-length c =
+    let counts : let s = c.args in counts_ok s.plan.periods s.plan.buckets ≡ true = (sym c.counts_in_range.ensures ∙ c.if-not-counts_in_range.false) in
+    let cost : leb c.args.plan.cost cost_limit ≡ true = le-leb _ _ (omega arith) in
+    let list : let s = c.args in leb s.plan.buckets (length s.list.now) ≡ true = le-leb _ _ c.if-list-buckets.false in
+    let first : Cutting = take c.args.plan.buckets c.args.list.now in
+    let records : records_ok c.args.plan.periods (first) ≡ true = (sym c.records_in_range.ensures ∙ c.if-not-records_in_range.false) in
+    let all = fill_refused _ c.args.bytes.now 6 (write_room _ _ _ _ (counts) (cost) (list) (records) (lt-leb _ _ c.if-bytes-length.true)) in
+    record { result_value = all.0; bytes_after = all.1 }
+
+pub put_header-requires : goal.put_header-requires
+put_header-requires c =
+    let counts : let s = c.args in counts_ok s.plan.periods s.plan.buckets ≡ true = (sym c.counts_in_range.ensures ∙ c.if-not-counts_in_range.false) in
+    let few : c.args.plan.buckets ≤ trace_limit = let a = c.args in let r = counts_range a.plan.periods a.plan.buckets (counts) in omega (arith, r.few, r.periods.few) in
+    record { in_bounds = omega (arith, c.if-bytes-length.false); buckets_le_trace_limit = few }
+
+pub put_records-requires : goal.put_records-requires
+put_records-requires c = omega (arith, c.if-bytes-length.false, c.put_header.auto.bytes, length-take c.args.plan.buckets c.args.list.now)
+
+pub returns : goal.returns
+returns c =
+    let first : Cutting = take c.args.plan.buckets c.args.list.now in
+    let counts : let s = c.args in counts_ok s.plan.periods s.plan.buckets ≡ true = (sym c.counts_in_range.ensures ∙ c.if-not-counts_in_range.false) in
+    let cost : leb c.args.plan.cost cost_limit ≡ true = le-leb _ _ (omega arith) in
+    let list : let s = c.args in leb s.plan.buckets (length s.list.now) ≡ true = le-leb _ _ c.if-list-buckets.false in
+    let records : records_ok c.args.plan.periods (first) ≡ true = (sym c.records_in_range.ensures ∙ c.if-not-records_in_range.false) in
+    let few : c.args.plan.buckets ≤ trace_limit = let a = c.args in let r = counts_range a.plan.periods a.plan.buckets (counts) in omega (arith, r.few, r.periods.few) in
+    let count : length (first) ≡ c.args.plan.buckets = length-take-le _ _ (omega (arith, few)) in
+    let a = c.args in
+    let n = length-plan a.plan.periods a.plan.cost (first) in
+    let all = fill_stored _ a.bytes.now (plan_bytes a.plan.periods a.plan.cost (first)) _ _
+    (write_figures_lem _ _ _ _ (counts) (cost) (list) (records) (le-leb _ _ c.if-bytes-length.false))
+    (sym (n ∙ ap plan_length (count))) (omega (arith, c.if-bytes-length.false, n, count))
+    (stored a.plan.periods a.plan.buckets a.plan.cost (first) (count) _ _ _ c.put_header.ensures c.put_records.ensures) in
+    record { result_value = all.0; bytes_after = all.1 }
