@@ -2,9 +2,10 @@
 ghost use Rattle.std.specs.Prelude.{◌<◌, ◌≤◌, ◌≡◌, [], ◌∷◌, ◌++◌, length};
 ghost use Rattle.terms.specs.Limits.{trace_limit};
 
+use crate::arrays::blank_records;
 use std::marker::Model;
 use terms::limits::TRACE_LIMIT;
-use terms::{Bucket, BucketRecord, Depth, Rate};
+use terms::BucketRecord;
 
 #[derive(Drop)]
 pub struct Records {
@@ -30,17 +31,8 @@ impl Records {
     pub fn new() -> Records
         ensures { result ≡ [] }
     {
-        let none = BucketRecord {
-            periods: 0,
-            bucket: Bucket {
-                rate: Rate(0),
-                depth: Depth(0),
-            },
-        };
-        Records {
-            entries: [none; TRACE_LIMIT],
-            count: 0,
-        }
+        let entries = blank_records();
+        Records { entries, count: 0 }
     }
 
     // One record more, behind the others.
