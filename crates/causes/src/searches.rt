@@ -16,13 +16,11 @@ pub fn opening_end(trace: &[u16], rate: Rate, tokens: u32) -> usize
 {
     let mut demands: u32 = 0;
     let mut tokens = tokens;
-    let mut i = 0;
-    while i < trace.len() {
-        demands += trace[i] as u32;
+    for (i, &demand) in trace.iter().enumerate() {
+        demands += demand as u32;
         tokens += rate.0;
-        i += 1;
         if tokens < demands {
-            return i;
+            return i + 1;
         }
     }
     0
@@ -36,15 +34,13 @@ pub fn stretch_end(trace: &[u16], bucket: Bucket) -> usize
     ensures { result ≡ figure_or (stretch_end bucket.rate.0 bucket.depth.0 trace.now) (length trace.now) }
 {
     let mut need: u32 = 0;
-    let mut last = 1;
-    while last < trace.len() {
-        need = (need + trace[last] as u32).saturating_sub(bucket.rate.0);
-        last += 1;
+    for i in 1..trace.len() {
+        need = (need + trace[i] as u32).saturating_sub(bucket.rate.0);
         if bucket.depth.0 < need {
-            return last;
+            return i + 1;
         }
     }
-    last
+    trace.len()
 }
 
 // The first period of the longest stretch, from period 2 or later, that ends with the last and needs more
@@ -59,14 +55,12 @@ pub fn stretch_start(trace: &[u16], bucket: Bucket, last: usize) -> usize
     let mut first = last;
     let mut demands: u32 = 0;
     let mut tokens = bucket.depth.0;
-    let mut u = last;
-    while 1 < u {
-        demands += trace[u - 1] as u32;
+    for i in (1..last).rev() {
+        demands += trace[i] as u32;
         tokens += bucket.rate.0;
         if tokens < demands {
-            first = u;
+            first = i + 1;
         }
-        u -= 1;
     }
     first
 }

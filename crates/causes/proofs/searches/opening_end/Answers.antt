@@ -67,11 +67,8 @@ end {r} {y} {ds} {i = i} k l = k.so_far ∙ from_none (λ v. short r y ds 1 v) (
 pub loop-i-init : goal.loop-i-init
 loop-i-init c = start _ _ _
 
-pub overflow_cast-demands : goal.overflow_cast-demands
-overflow_cast-demands c = omega (arith, c.shared_slice_known-1.given c.loop-i.i)
-
 pub overflow_add-demands : goal.overflow_add-demands
-overflow_add-demands c = omega (arith, demands_fit c.loop-i.invariant c.loop-i-test.true (record { each = λ i. omega (arith, c.shared_slice_known-1.given i) }) c.requires.periods_range.few)
+overflow_add-demands c = omega (arith, demands_fit c.loop-i.invariant c.loop-i-test.true (record { each = λ i. omega (arith, c.type_inv.trace i) }) c.requires.periods_range.few)
 
 pub overflow_add-tokens : goal.overflow_add-tokens
 overflow_add-tokens c = omega (arith, tokens-fit c.loop-i.invariant c.loop-i-test.true c.requires.rate_le_rate_limit c.requires.tokens_le_depth_limit c.requires.periods_range.few)

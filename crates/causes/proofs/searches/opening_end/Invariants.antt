@@ -27,6 +27,3 @@ pub record Opened (r y : ℕ) (ds : List ℕ) (demands tokens i : ℕ) : Type 0 
 
 abbrev pub invariant-loop-i : goal.invariant-loop-i
 invariant-loop-i l = Opened l.rate.0 l.tokens-2 l.trace l.demands l.tokens l.i
-
-abbrev pub decreases-loop-i : goal.decreases-loop-i
-decreases-loop-i l = length l.trace - l.i

@@ -29,8 +29,5 @@ pub record Started (r C : ℕ) (ds : List ℕ) (v first demands tokens u : ℕ) 
   pub gains : tokens ≡ C + r * (v - u)
   pub so_far : first ≡ figure_or (first_from (λ n. short r C ds n v) (v - u) (u + 1)) v
 
-abbrev pub invariant-loop-u : goal.invariant-loop-u
-invariant-loop-u l = Started l.bucket.rate.0 l.bucket.depth.0 l.trace l.last l.first l.demands l.tokens l.u
-
-abbrev pub decreases-loop-u : goal.decreases-loop-u
-decreases-loop-u l = l.u
+abbrev pub invariant-loop-i : goal.invariant-loop-i
+invariant-loop-i l = Started l.bucket.rate.0 l.bucket.depth.0 l.trace l.last l.first l.demands l.tokens l.i
