@@ -3,16 +3,16 @@ ghost use Rattle.std.specs.Prelude.{◌≤◌, ◌≡◌, length};
 ghost use Rattle.terms.specs.Answer.{figure_or};
 ghost use Rattle.terms.specs.Limits.{depth_limit, rate_limit};
 ghost use Rattle.terms.specs.RangeRules.{BucketRange, PeriodsRange};
-ghost use Rattle.causes.specs.Cause.{opening_end, stretch_end, stretch_start};
+ghost use Rattle.causes.specs.Cause.{number_found, opening_end, stretch_end, stretch_start};
 
 use terms::{Bucket, Rate};
 
-// How many first periods need more than the tokens, the least such number; or 0 where none do.
-pub fn opening_end(trace: &[u16], rate: Rate, tokens: u32) -> usize
+// How many first periods need more than the tokens, the least such number; or none.
+pub fn opening_end(trace: &[u16], rate: Rate, tokens: u32) -> Option<usize>
     requires periods_range { PeriodsRange (length trace.now) }
     requires rate_le_rate_limit { rate.0 ≤ rate_limit }
     requires tokens_le_depth_limit { tokens ≤ depth_limit }
-    ensures { result ≡ figure_or (opening_end rate.0 tokens trace.now) 0 }
+    ensures { number_found result ≡ opening_end rate.0 tokens trace.now }
 {
     let mut demands: u32 = 0;
     let mut tokens = tokens;
@@ -20,10 +20,10 @@ pub fn opening_end(trace: &[u16], rate: Rate, tokens: u32) -> usize
         demands += demand as u32;
         tokens += rate.0;
         if tokens < demands {
-            return i + 1;
+            return Some(i + 1);
         }
     }
-    0
+    None
 }
 
 // The last period of the stretch, from period 2 or later, that needs more than the depth and ends first;

@@ -70,14 +70,11 @@ loop-i-init c = start _ _ _
 pub overflow_add-demands : goal.overflow_add-demands
 overflow_add-demands c = omega (arith, demands_fit c.loop-i.invariant c.loop-i-test.true (record { each = λ i. omega (arith, c.type_inv.trace i) }) c.requires.periods_range.few)
 
-pub overflow_add-tokens : goal.overflow_add-tokens
-overflow_add-tokens c = omega (arith, tokens-fit c.loop-i.invariant c.loop-i-test.true c.requires.rate_le_rate_limit c.requires.tokens_le_depth_limit c.requires.periods_range.few)
-
 pub returns-then-tokens-demands : goal.returns-then-tokens-demands
-returns-then-tokens-demands c = sym (ap (λ (a : Answer ℕ). figure_or a 0) (found c.loop-i.invariant c.loop-i-test.true c.if-tokens-demands.true))
+returns-then-tokens-demands c = sym (found c.loop-i.invariant c.loop-i-test.true c.if-tokens-demands.true)
 
 pub loop-i-preserved : goal.loop-i-preserved
 loop-i-preserved c = next c.loop-i.invariant c.loop-i-test.true c.if-tokens-demands.false
 
 pub returns : goal.returns
-returns c = sym (ap (λ (a : Answer ℕ). figure_or a 0) (end c.loop-i.invariant c.loop-i-test.false))
+returns c = sym (end c.loop-i.invariant c.loop-i-test.false)

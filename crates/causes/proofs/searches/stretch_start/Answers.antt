@@ -113,6 +113,3 @@ loop-i-preserved-then-tokens-demands c =
 pub loop-i-preserved : goal.loop-i-preserved
 loop-i-preserved c =
     miss c.loop-i.invariant c.loop-i-test.true c.requires.last_in_bounds c.if-tokens-demands.false
-
-pub returns : goal.returns
-returns c = end c.loop-i.invariant c.loop-i-test.false
