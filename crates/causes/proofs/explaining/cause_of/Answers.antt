@@ -3,7 +3,6 @@ use Prim.Native.Nat.{ℕ, ◌-◌, ◌≤◌}
 use native.Mathlib.Omega.{arith}
 use mathlib.Core.Path.{◌≡◌, sym, ap, ap₂, ◌∙◌}
 use mathlib.Core.List.{List}
-use borrow.Author.Rules.{rules}
 use lib.ListN.{length}
 use Rattle.terms.specs.declared.Tariff.{Tariff}
 use Rattle.terms.specs.Answer.{Answer, figures, refused, figure_or}
@@ -11,7 +10,7 @@ use Rattle.terms.specs.Limits.{depth_limit, trace_limit}
 use Rattle.terms.specs.RangeRules.{FreshRange}
 use Rattle.bucket.specs.Laws.{start_le}
 use Rattle.depth.specs.Depth.{depth_of}
-use Rattle.causes.specs.Cause.{SetBy, opening, stretch, opening_end, start_at, stretch_end, stretch_start, cause_of}
+use Rattle.causes.specs.Cause.{opening, stretch, opening_end, start_at, stretch_end, stretch_start, cause_of}
 use Rattle.causes.specs.CauseLaws.{nothing-at_0}
 use Rattle.causes.specs.FoundLaws.{Asked, Stretched, asked, cause-opens, opening-is, stretched}
 use Rattle.causes.proofs.explaining.cause_of.Goals as goal

@@ -5,10 +5,9 @@ use native.Mathlib.Nat.{mul-le-mul, mul-suc, sub-zero}
 use native.Mathlib.Numerals.{add-one}
 use mathlib.Core.Path.{◌≡◌, refl, sym, ap, ◌∙◌}
 use mathlib.Core.List.{List}
-use borrow.Author.Rules.{rules}
 use lib.ListN.{length, get_or, take}
 use lib.Seq.{length-take-le, take-suc}
-use Rattle.terms.specs.Answer.{Answer, figures, refused, figure_or}
+use Rattle.terms.specs.Answer.{figures, refused}
 use Rattle.terms.specs.Limits.{demand_limit, depth_limit, rate_limit, trace_limit}
 use Rattle.terms.specs.Records.{total}
 use Rattle.bucket.specs.Laws.{demands-take}

@@ -5,13 +5,11 @@ use native.Mathlib.Numerals.{add-one}
 use mathlib.Core.Path.{◌≡◌, refl, sym, ap, ◌∙◌}
 use mathlib.Core.Bool.{Bool}
 use mathlib.Core.List.{List, [], ◌∷◌, ◌++◌}
-use borrow.Author.Rules.{rules}
 use borrow.Author.Tests.{lt-ltb, le-ltb}
 use lib.ListN.{length, get_or, take, drop}
 use lib.Seq.{drop-append-le, length-take-le, slice, slice_empty, take-suc}
 use Rattle.terms.specs.Answer.{Answer, figures, figure_or}
 use Rattle.depth.specs.declared.walk.Walk.{Walk}
-use Rattle.depth.specs.Depth.{first_from}
 use Rattle.depth.specs.SearchLaws.{from_failed, from_none, from-passed}
 use Rattle.depth.specs.Walk.{pushed, walk_of}
 use Rattle.depth.specs.WalkLaws.{walk_more}

@@ -1,22 +1,12 @@
 -- Up to the last period gone through no stretch is short, and `need` is the ending of the walk from period 2 to it.
-use Prim.Native.Nat.{ℕ, ◌+◌, ◌-◌, ◌≤◌, ◌<◌}
-use native.Mathlib.Omega.{arith}
-use native.Mathlib.Numerals.{add-one}
-use mathlib.Core.Path.{◌≡◌, refl, sym, ap, ◌∙◌}
-use mathlib.Core.Bool.{Bool}
-use mathlib.Core.List.{List, [], ◌∷◌, ◌++◌}
-use borrow.Author.Rules.{rules}
-use borrow.Author.Tests.{lt-ltb, le-ltb}
-use lib.ListN.{length, get_or, take, drop}
-use lib.Seq.{drop-append-le, length-take-le, slice, slice_empty, take-suc}
-use Rattle.terms.specs.Answer.{Answer, figures, figure_or}
-use Rattle.depth.specs.declared.walk.Walk.{Walk}
+use Prim.Native.Nat.{ℕ, ◌+◌, ◌-◌, ◌≤◌}
+use mathlib.Core.Path.{◌≡◌}
+use mathlib.Core.List.{List}
+use lib.ListN.{length}
+use lib.Seq.{slice}
 use Rattle.depth.specs.Depth.{first_from}
-use Rattle.depth.specs.SearchLaws.{from_failed, from_none, from-passed}
-use Rattle.depth.specs.Walk.{pushed, walk_of}
-use Rattle.depth.specs.WalkLaws.{walk_more}
+use Rattle.depth.specs.Walk.{walk_of}
 use Rattle.causes.specs.Cause.{is_found, stretch_end, stretch_start}
-use Rattle.causes.specs.PeriodNeedLaws.{stretch-found}
 use Rattle.causes.proofs.searches.stretch_end.Given as goal
 
 pub record Ended (r C : ℕ) (ds : List ℕ) (need last : ℕ) : Type 0 where

@@ -6,8 +6,6 @@ use native.Mathlib.Nat.{mul-le-mul, mul-suc, sub_self, mul-zero}
 use mathlib.Core.Path.{◌≡◌, sym, ap, ◌∙◌}
 use mathlib.Core.Bool.{Bool, true, false}
 use mathlib.Core.List.{List}
-use mathlib.Core.Logic.{⊎_elim}
-use borrow.Author.Rules.{rules}
 use lib.Dec.{ltb}
 use lib.ListN.{length, get_or}
 use lib.Seq.{length-slice, slice, slice-cons, slice_empty}
@@ -88,7 +86,7 @@ module _ {r C : ℕ} {ds : List ℕ} {v first demands tokens u : ℕ} (k : Start
   miss h =
       let e = short-u false (sums-enough r C demands' tokens' _ sums' gained h) in
       let f : search-u ≡ first_from (λ m. short r C ds m v) (v - u) (j + 1 + 1) =
-          from_failed (λ m. short r C ds m v) (j + 1) (v - j) (v - u) (omega (arith, k.inside)) e in
+      from_failed (λ m. short r C ds m v) (j + 1) (v - j) (v - u) (omega (arith, k.inside)) e in
       let g : u + 1 ≡ j + 1 + 1 = omega arith in
       next first (k.so_far ∙ rw (f, g))
 
