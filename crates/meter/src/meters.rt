@@ -51,6 +51,7 @@ pub fn open_meter(bucket: Bucket, factor: Factor) -> Result<Meter, Refusal>
 
 // One period of a meter with an offer of kilobits, or refusal 8 or 9, and then the record comes
 // back as it was. The record may be any at all.
+#[tactic(auto, unfolding(crate::specs::Meter::offer_of))]
 pub fn offer(meter: Meter, demand: u16) -> Offered
     ensures { Answered meter demand result }
 {
@@ -98,6 +99,7 @@ fn counted(m: Meter, period: Period) -> Meter
 }
 
 // Whether a record breaks none of the rules of refusal 8.
+#[tactic(auto, unfolding(crate::specs::Meter::meter_ok))]
 fn record_in_order(m: Meter) -> bool
     ensures { result ≡ meter_ok m }
 {
