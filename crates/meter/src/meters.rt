@@ -58,8 +58,7 @@ pub fn offer(meter: Meter, demand: u16) -> Offered
     if !record_in_order(meter) {
         return refuse(meter, Refusal::Meter);
     }
-    let bucket = meter.bucket;
-    let period = step(bucket, meter.held, demand);
+    let period = step(meter.bucket, meter.held, demand);
     let next = counted(meter, period);
     if METER_LIMIT < next.periods {
         return refuse(meter, Refusal::Full);
@@ -85,16 +84,13 @@ fn counted(m: Meter, period: Period) -> Meter
     requires { TotalsRange m }
     ensures { result ≡ record_after m (figures period) }
 {
-    let bucket = m.bucket;
-    let factor = m.factor;
     Meter {
-        bucket,
-        factor,
         held: period.held,
         periods: m.periods + 1,
         sent: m.sent + period.sent as u64,
         over: m.over + period.over as u64,
         lost: m.lost + period.lost as u64,
+        ..m
     }
 }
 
@@ -103,15 +99,7 @@ fn counted(m: Meter, period: Period) -> Meter
 fn record_in_order(m: Meter) -> bool
     ensures { result ≡ meter_ok m }
 {
-    let bucket = m.bucket;
-    let factor = m.factor;
-    if !fresh_in_range(bucket, factor) {
-        return false;
-    }
-    if !totals_in_range(m) {
-        return false;
-    }
-    balances(m)
+    fresh_in_range(m.bucket, m.factor) && totals_in_range(m) && balances(m)
 }
 
 // Whether tokens, periods and totals are within their limits.
@@ -132,9 +120,7 @@ fn balances(m: Meter) -> bool
     requires totals_range { TotalsRange m }
     ensures { result ≡ balanced m }
 {
-    let bucket = m.bucket;
-    let factor = m.factor;
-    let start = starting_tokens(bucket, factor);
+    let start = starting_tokens(m.bucket, m.factor);
     let gained = m.bucket.rate.0 as u64 * m.periods as u64;
     start as u64 + gained == m.sent + m.lost + m.held as u64
 }
