@@ -106,12 +106,12 @@ fn record_in_order(m: Meter) -> bool
 fn totals_in_range(m: Meter) -> bool
     ensures { result ≡ totals_ok m }
 {
-    (m.held <= m.bucket.depth.0)
-        & (m.periods <= METER_LIMIT)
-        & (m.sent <= TOTAL_LIMIT)
-        & (m.over <= TOTAL_LIMIT)
-        & (m.lost <= TOTAL_LIMIT)
-        & (m.over <= DEMAND_LIMIT as u64 * m.periods as u64)
+    m.held <= m.bucket.depth.0
+        && m.periods <= METER_LIMIT
+        && m.sent <= TOTAL_LIMIT
+        && m.over <= TOTAL_LIMIT
+        && m.lost <= TOTAL_LIMIT
+        && m.over <= DEMAND_LIMIT as u64 * m.periods as u64
 }
 
 // Whether the starting tokens and the rate of each period are what was sent, lost and is held.
