@@ -3,7 +3,7 @@
 use crate::put;
 use std::env::FillError;
 use std::rt::Env;
-use typed_figures::{NumberAnswer, number_of};
+use typed_figures::number_of;
 
 // Whether the program was started with that many words, its own name among them. Where it was not,
 // its use goes to standard error, or to standard output where --help is the only argument.
@@ -51,12 +51,12 @@ pub fn number_argument(
     index: usize,
     fault: &[u8],
     what: &[u8],
-) -> NumberAnswer {
+) -> Option<u32> {
     let mut room = [0u8; WORD_ROOM];
     let length = rt.arg(index, &mut room).unwrap_or(0);
-    let NumberAnswer::Number(number) = number_of(&room[..length]) else {
+    let number = number_of(&room[..length]);
+    if number.is_none() {
         put(errors, errors, fault, what);
-        return NumberAnswer::NoNumber;
-    };
-    NumberAnswer::Number(number)
+    }
+    number
 }

@@ -1,8 +1,10 @@
 -- The division law of the starting tokens: N × q / p rounded up is the least depth B with p × B / q, rounded down,
 -- at least N.
 -- Assumes nothing.
-use Rattle.std.specs.Prelude.{ℕ, zero, suc, ◌+◌, ◌-◌, ◌*◌, ◌/◌, ◌≤◌, ◌<◌}
+use Rattle.std.specs.Prelude.{ℕ, zero, suc, ◌+◌, ◌-◌, ◌*◌, ◌/◌, ◌≤◌, ◌<◌, ◌≡◌}
+use Rattle.std.specs.Int.{div_ceil}
 use Rattle.std.proofs.Common.{arith, le-div_iff_mul-le, div-lt_iff_lt-mul}
+use Rattle.std.proofs.lemmas.Grind.{div_ceil_times}
 use Rattle.std.proofs.Math.Nat.{div-zero}
 use Rattle.bucket.specs.Step.{start_of}
 use Rattle.depth.specs.Walk.{ceiling}
@@ -32,6 +34,15 @@ le-ceiling x zero B C h k = omega arith
 le-ceiling x (suc p) B C h k =
     let z : 0 < suc p = omega arith in
     let l : x + (suc p - 1) < (B + 1) * suc p = (div-lt_iff_lt-mul z).0 (omega arith) in
+    omega arith
+
+-- The library's quotient rounded up is this one.
+pub div_ceil-is : (x p : ℕ) → 1 ≤ p → div_ceil x p ≡ ceiling x p
+unfolding ceiling
+div_ceil-is x p h =
+    let k = div_ceil_times x p h in
+    let least : div_ceil x p ≤ (x + (p - 1)) / p = (le-div_iff_mul-le h).1 (omega (arith, k.1)) in
+    let most : (x + (p - 1)) / p < div_ceil x p + 1 = (div-lt_iff_lt-mul h).1 (omega (arith, k.0)) in
     omega arith
 
 -- The law: where a fresh bucket of some depth C holds N tokens,

@@ -1,7 +1,7 @@
 -- The depth answer is the smallest depth inside the cap that carries the trace,
 -- refusal 7 is given exactly when there is none, and one walk gives it.
 -- Assumes nothing.
-use Rattle.std.specs.Prelude.{ℕ, ◌+◌, ◌*◌, ◌≤◌, max, ◌≡◌, Bool, cond, List, [], ◌∷◌, ◌++◌, leb, length}
+use Rattle.std.specs.Prelude.{ℕ, ◌*◌, ◌≤◌, max, ◌≡◌, Bool, cond, List, [], ◌∷◌, ◌++◌, leb, length}
 use Rattle.std.proofs.Common.{arith, sym, ap, subst, ◌∙◌, leb-true, le-leb}
 use Rattle.std.proofs.Math.Nat.{max-le, le-max_left, le-max_right}
 use Rattle.std.proofs.Math.Path.{refl}

@@ -30,6 +30,7 @@ pub fn depth_from_end(list: &[u16], rate: Rate, tariff: Tariff) -> Result<Depth,
 }
 
 // Weighs what the calls are given and walks through the list; or refusal 3 or 5.
+#[tactic(auto, unfolding(crate::specs::Walked::walk_for))]
 fn walk_through(list: &[u16], rate: Rate, tariff: Tariff) -> Result<Walk, Refusal>
     ensures { says result ≡ walk_for tariff rate.0 list.now }
 {
@@ -43,6 +44,7 @@ fn walk_through(list: &[u16], rate: Rate, tariff: Tariff) -> Result<Walk, Refusa
 }
 
 // One walk through a list of demands, first to last.
+#[tactic(auto, using(crate::specs::WalkLaws::walk_next), unfolding(crate::specs::Walk::walk_of))]
 fn walked(list: &[u16], rate: Rate) -> Walk
     requires periods_range { PeriodsRange (length list.now) }
     requires rate_le_rate_limit { rate.0 ≤ rate_limit }
@@ -59,5 +61,5 @@ fn walked(list: &[u16], rate: Rate) -> Walk
 fn rate_in_range(rate: Rate, tariff: Tariff) -> bool
     ensures { result ≡ rate_ok tariff rate.0 }
 {
-    tariff_in_range(tariff) & (rate.0 <= tariff.rate_cap.0)
+    tariff_in_range(tariff) && rate.0 <= tariff.rate_cap.0
 }

@@ -39,6 +39,7 @@ impl Walk {
     }
 
     // One period more.
+    #[tactic(auto, unfolding(crate::specs::Walk::pushed))]
     pub fn push(self, rate: Rate, demand: u16) -> Walk
         requires walk_range { WalkRange (trace_limit - 1) self }
         requires rate_le_rate_limit { rate.0 ≤ rate_limit }
@@ -61,11 +62,9 @@ impl Walk {
         ensures { result ≡ turned self }
     {
         Walk {
-            sum: self.sum,
-            gained: self.gained,
             opening: self.ending,
             ending: self.opening,
-            stretch: self.stretch,
+            ..self
         }
     }
 
@@ -78,24 +77,13 @@ impl Walk {
     {
         let opening = self.opening as u64 * factor.q as u64;
         let most = factor.p as u64 * cap.0 as u64;
-        let met = (self.stretch <= cap.0) & (opening <= most);
-        if !met {
+        if cap.0 < self.stretch || most < opening {
             return Err(Refusal::NoPlan);
         }
         if opening == 0 {
             return Ok(Depth(self.stretch));
         }
-        let fresh = rounded_up(opening as u32, factor.p);
+        let fresh = (opening as u32).div_ceil(factor.p);
         Ok(Depth(self.stretch.max(fresh)))
     }
-}
-
-// x / p, rounded up.
-fn rounded_up(x: u32, p: u32) -> u32
-    requires le_p { 1 ≤ p }
-    requires p_le_parts_limit { p ≤ parts_limit }
-    requires x_bound { x ≤ parts_limit * depth_limit }
-    ensures { result ≡ ceiling x p }
-{
-    (x + (p - 1)) / p
 }

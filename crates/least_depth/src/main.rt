@@ -6,7 +6,6 @@
 use console::{ORDER_ROOM, has_words, is_word, number_argument, print, read_all};
 use services::{LONGEST_DEPTH, depth_from_end_line, depth_line};
 use terms::{Rate, Refusal};
-use typed_figures::NumberAnswer;
 
 fn main(rt: HostRuntime) {
     let from_end = is_word(&rt, 2, b"from-end");
@@ -20,7 +19,7 @@ fn main(rt: HostRuntime) {
     ) {
         return;
     }
-    let NumberAnswer::Number(rate) = number_argument(
+    let Some(rate) = number_argument(
         &rt,
         &rt.stderr(),
         1,

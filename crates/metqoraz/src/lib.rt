@@ -40,8 +40,8 @@ pub use sheets::{LONGEST_SHEET, sheet};
 pub use text::{LONGEST_FIGURE, LONGEST_REFUSAL, megabits, refusal_line};
 
 // Typed text: an order's figures, the word around a fault, and one number.
-pub use order_text::{Fault, Reason, TextAnswer, order_of_text, refusal_of, word_around};
-pub use typed_figures::{NumberAnswer, limit_of, number_of};
+pub use order_text::{Fault, Reason, TextError, order_of_text, word_around};
+pub use typed_figures::{limit_of, number_of};
 
 // For programs in C and Rust, on numbers and slices.
 pub use exports::{

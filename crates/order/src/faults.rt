@@ -1,6 +1,6 @@
 // What is wrong with a text, in one line on standard error: where, about which figure, its word where it
 // has one, why, and the refusal's number.
-use order_text::{Fault, Reason, refusal_of, word_around};
+use order_text::{Fault, Reason, word_around};
 use terms::Refusal;
 use typed_figures::limit_of;
 
@@ -20,7 +20,7 @@ pub fn say(rt: &impl Eprint, fault: Fault, text: &[u8]) {
         Reason::Few => words(rt, "the text ends where it is due"),
     }
     words(rt, " (refused ");
-    number(rt, u32::from(refusal_of(reason)) as u64);
+    number(rt, u32::from(Refusal::from(reason)) as u64);
     words(rt, ")\n");
 }
 

@@ -7,7 +7,7 @@ mod faults;
 
 use console::{INPUT_ROOM, has_words, put_front, read_all};
 use order_file::LONGEST_ORDER;
-use order_text::{TextAnswer, order_of_text};
+use order_text::{TextError, order_of_text};
 
 fn main(rt: HostRuntime) {
     if !has_words(
@@ -32,9 +32,9 @@ fn main(rt: HostRuntime) {
 fn write_order(rt: &(impl Print + Eprint), errors: &impl Print, text: &[u8]) {
     let mut file = [0; LONGEST_ORDER];
     match order_of_text(text, &mut file) {
-        TextAnswer::Written(length) => put_front(rt, errors, &file, length, b"order: write"),
-        TextAnswer::Faulty(fault) => faults::say(rt, fault, text),
+        Ok(length) => put_front(rt, errors, &file, length, b"order: write"),
+        Err(TextError::Faulty(fault)) => faults::say(rt, fault, text),
         // never: the bytes are as many as the longest file has
-        TextAnswer::Refused(refusal) => faults::refused(rt, refusal),
+        Err(TextError::Refused(refusal)) => faults::refused(rt, refusal),
     }
 }

@@ -1,8 +1,7 @@
 -- The code's steps on a cursor and a list are the definition's on the scan that these hold.
 -- Assumes nothing.
-use Rattle.std.specs.Prelude.{ℕ, ◌+◌, ◌≤◌, ◌<◌, ◌≡◌, refl, Bool, true, false, ◌||◌, List, [], ◌∷◌, ◌++◌, eqb, length, take, drop, get_or, set}
+use Rattle.std.specs.Prelude.{ℕ, ◌+◌, ◌≤◌, ◌<◌, ◌≡◌, refl, Bool, true, false, ◌||◌, List, [], ◌∷◌, ◌++◌, eqb, length, take, drop, get_or, set, Option, None, Some, Ok, Err}
 use Rattle.std.proofs.Common.{arith, add-one, sym, ap, subst, ◌∙◌, eqb-true, length-take-le, take-suc-set, get_or-take}
-use Rattle.std.proofs.Math.Option.{Option, none, some}
 use Rattle.terms.specs.Bools.{true-false}
 use Rattle.typed_figures.specs.Decimal.{pushed}
 use Rattle.typed_figures.specs.Figures.{limit_of, figures_limit, factor_stands}
@@ -10,19 +9,17 @@ use Rattle.order_text.specs.declared.faults.Reason.{Reason}
 use Rattle.order_text.specs.declared.faults.Reason.TheVariants.{Above, Many, Factor}
 use Rattle.order_text.specs.declared.faults.Fault.{Fault}
 use Rattle.order_text.specs.declared.scan.Cursor.{Cursor}
-use Rattle.order_text.specs.declared.scan.Step.{Step}
-use Rattle.order_text.specs.declared.scan.Step.TheVariants.{On, Faulty}
 use Rattle.order_text.specs.Text.{read, faulty, mark_length, carriage_return, hash, ends_line, started, fault_at, unless_above, with_digit, closed, after_byte, scanned, whole_scan}
 use Rattle.order_text.specs.ScanLaws.{digit_many, digit_value, closed-factor, closed_figure, goes, goes_line, scanned_next, scanned_end}
 use Rattle.order_text.specs.PlaceLaws.{At, after-at}
-use Rattle.order_text.specs.Cursors.{scan_of, step_says, Fits, StepFits, Steps, Passes}
+use Rattle.order_text.specs.Cursors.{Step, scan_of, step_says, Fits, StepFits, Steps, Passes}
 
 pub count-is : (c : Cursor) (xs : List ℕ) → Fits c → length xs ≡ figures_limit → length (take c.count xs) ≡ c.count
 count-is c xs f l = length-take-le c.count xs (omega (arith, f.few, l))
 
 -- ---- Steps that store nothing
 
-pub fault_steps : (reason : Reason) (c : Cursor) → Fits c → Steps (λ s. faulty (fault_at reason s)) c (Faulty (record { line = c.line; place = c.place; figure = c.count; reason = reason }))
+pub fault_steps : (reason : Reason) (c : Cursor) → Fits c → Steps (λ s. faulty (fault_at reason s)) c (Err (record { line = c.line; place = c.place; figure = c.count; reason = reason }))
 fault_steps reason c f =
     record {
       says = λ xs l. ap (λ (n : ℕ). faulty (record { line = c.line; place = c.place; figure = n; reason = reason })) (sym (count-is c xs f l));
@@ -66,12 +63,12 @@ module _ (c : Cursor) (b : ℕ) where
           let n = count-is c xs f l in
           digit_value (scan_of c xs) b o (omega (arith, n)) (ap (λ (k : ℕ). pushed (limit_of k) c.value b) n ∙ e)
 
-      pub above_steps : (r : Step) → pushed (limit_of c.count) c.value b ≡ none → Steps (λ s. faulty (fault_at Above s)) c r → Steps (λ s. with_digit s b) c r
-      above_steps r e k = record { says = λ xs l. k.says xs l ∙ sym (value-is none e xs l); fits = k.fits }
+      pub above_steps : (r : Step) → pushed (limit_of c.count) c.value b ≡ None → Steps (λ s. faulty (fault_at Above s)) c r → Steps (λ s. with_digit s b) c r
+      above_steps r e k = record { says = λ xs l. k.says xs l ∙ sym (value-is None e xs l); fits = k.fits }
 
-      pub digit-steps : (n : ℕ) → pushed (limit_of c.count) c.value b ≡ some n
-          → Steps (λ s. with_digit s b) c (On (record { line = c.line; place = c.place + 1; returned = false; comment = c.comment; begun = true; value = n; count = c.count }))
-      digit-steps n e = record { says = λ xs l. sym (value-is (some n) e xs l); fits = record { few = f.few; room = λ h. room } }
+      pub digit-steps : (n : ℕ) → pushed (limit_of c.count) c.value b ≡ Some n
+          → Steps (λ s. with_digit s b) c (Ok (record { line = c.line; place = c.place + 1; returned = false; comment = c.comment; begun = true; value = n; count = c.count }))
+      digit-steps n e = record { says = λ xs l. sym (value-is (Some n) e xs l); fits = record { few = f.few; room = λ h. room } }
 
 -- ---- A figure stored
 
@@ -127,21 +124,20 @@ scan_begin text xs m e l =
 
 module _ {text xs : List ℕ} {c : Cursor} {i : ℕ} (s : Scanning text xs c i) where
   -- A step from there.
-  module _ (l : i < length text) (r : Step) (xs' : List ℕ) (e : step_says r xs' ≡ after_byte (scan_of c xs) (get_or text i 0)) where
-    pub scan_next : (d : Cursor) → r ≡ On d → StepFits r → length xs' ≡ length xs → Scanning text xs' d (i + 1)
-    scan_next d k f m =
-        let h : after_byte (scan_of c xs) (get_or text i 0) ≡ read (scan_of d xs') = sym e ∙ ap (λ (x : Step). step_says x xs') k in
-        let p = subst (At (c.place + 1) c.place) h (after-at (scan_of c xs) (get_or text i 0)) in
+  module _ (l : i < length text) where
+    pub scan_next : (xs' : List ℕ) (d : Cursor) → read (scan_of d xs') ≡ after_byte (scan_of c xs) (get_or text i 0) → Fits d → length xs' ≡ length xs → Scanning text xs' d (i + 1)
+    scan_next xs' d e f m =
+        let p = subst (At (c.place + 1) c.place) (sym e) (after-at (scan_of c xs) (get_or text i 0)) in
         record {
-          left = sym (scanned_next (scan_of c xs) text i _ l h) ∙ s.left;
-          fits = subst StepFits k f;
-          lines = omega (arith, s.lines, goes_line (goes (scan_of c xs) (scan_of d xs') (get_or text i 0) h));
+          left = sym (scanned_next (scan_of c xs) text i _ l (sym e)) ∙ s.left;
+          fits = f;
+          lines = omega (arith, s.lines, goes_line (goes (scan_of c xs) (scan_of d xs') (get_or text i 0) (sym e)));
           place = omega (arith, s.place, p);
           same = m ∙ s.same;
         }
 
-    pub scan_fault : (x : Fault) → r ≡ Faulty x → faulty x ≡ whole_scan text
-    scan_fault x k = sym (scanned_next (scan_of c xs) text i _ l (sym e ∙ ap (λ (y : Step). step_says y xs') k)) ∙ s.left
+    pub scan_fault : (x : Fault) → faulty x ≡ after_byte (scan_of c xs) (get_or text i 0) → faulty x ≡ whole_scan text
+    scan_fault x e = sym (scanned_next (scan_of c xs) text i _ l (sym e)) ∙ s.left
 
   pub scan_end : length text ≤ i → read (scan_of c xs) ≡ whole_scan text
   scan_end l = sym (scanned_end (scan_of c xs) text i l) ∙ s.left

@@ -1,10 +1,9 @@
 -- How the code holds a scan: a cursor, and the figures read at the front of a list.
 -- Assumes nothing.
-use Rattle.std.specs.Prelude.{ℕ, ◌≤◌, ◌<◌, ◌≡◌, true, List, length, take}
+use Rattle.std.specs.Prelude.{ℕ, ◌≤◌, ◌<◌, ◌≡◌, true, List, length, take, Result, Ok, Err}
 use Rattle.typed_figures.specs.Figures.{figures_limit}
+use Rattle.order_text.specs.declared.faults.Fault.{Fault}
 use Rattle.order_text.specs.declared.scan.Cursor.{Cursor}
-use Rattle.order_text.specs.declared.scan.Step.{Step}
-use Rattle.order_text.specs.declared.scan.Step.TheVariants.{On, Faulty}
 use Rattle.order_text.specs.Text.{Reading, read, faulty, Scan, passed}
 
 abbrev pub scan_of : Cursor → List ℕ → Scan
@@ -19,18 +18,22 @@ scan_of c xs =
       figures = take c.count xs;
     }
 
-abbrev pub step_says : Step → List ℕ → Reading Scan
-step_says (On c) xs = read (scan_of c xs)
-step_says (Faulty x) xs = faulty x
+-- What a step of the scan gives: where it has come to, or a fault.
+abbrev pub Step : Type 0
+Step = Result Cursor Fault
+
+abbrev pub step_says : Result Cursor Fault → List ℕ → Reading Scan
+step_says (Ok c) xs = read (scan_of c xs)
+step_says (Err x) xs = faulty x
 
 -- The figures read, with the one that is begun, are as many as an order has at the most.
 pub record Fits (c : Cursor) : Type 0 where
   pub few : c.count ≤ figures_limit
   pub room : c.begun ≡ true → c.count < figures_limit
 
-abbrev pub StepFits : Step → Type 0
-StepFits (On c) = Fits c
-StepFits (Faulty x) = Unit {0}
+abbrev pub StepFits : Result Cursor Fault → Type 0
+StepFits (Ok c) = Fits c
+StepFits (Err x) = Unit {0}
 
 -- The line and the place have others after them among the numbers of 64 bits.
 pub record Ahead (c : Cursor) : Type 0 where

@@ -1,8 +1,7 @@
 -- Each step goes on by one byte, and a fault is where it stops: so its place is inside the text, or at its end.
 -- Assumes nothing.
-use Rattle.std.specs.Prelude.{ℕ, suc, ◌+◌, ◌≤◌, ◌<◌, ◌≡◌, refl, Bool, true, false, cond, ◌&&◌, List, [], ◌∷◌, leb, eqb, length, get_or}
+use Rattle.std.specs.Prelude.{ℕ, suc, ◌+◌, ◌≤◌, ◌<◌, ◌≡◌, refl, Bool, true, false, cond, ◌&&◌, List, [], ◌∷◌, leb, eqb, length, get_or, Option, None, Some}
 use Rattle.std.proofs.Common.{arith, ap, subst, leb-true, leb-false, length-drop}
-use Rattle.std.proofs.Math.Option.{Option, none, some}
 use Rattle.typed_figures.specs.Decimal.{is_digit, pushed}
 use Rattle.typed_figures.specs.Figures.{tariff_figures, limit_of, figures_limit, factor_stands}
 use Rattle.order_text.specs.declared.faults.Reason.TheVariants.{Byte, Factor, Many, Few}
@@ -32,8 +31,8 @@ module _ (s : Scan) where
       where
         go : (many : Bool) (o : Option ℕ) → At (s.place + 1) s.place (cond many (faulty (fault_at Many s)) (unless_above s o))
         go true o = refl
-        go false none = refl
-        go false (some n) = refl
+        go false None = refl
+        go false (Some n) = refl
 
     passed-at : (a : Reading Scan) → At s.place s.place a → At (s.place + 1) s.place (on_read (λ t. passed t b) a)
     passed-at (read t) e = ap (λ (n : ℕ). n + 1) e

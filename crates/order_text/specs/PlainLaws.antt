@@ -1,11 +1,10 @@
 -- The plain text of figures gives the figures back: each figure's digits come to it, and the newline behind them ends
 -- it; also behind a mark.
 -- Assumes nothing.
-use Rattle.std.specs.Prelude.{ℕ, zero, suc, ◌+◌, ◌-◌, ◌*◌, ◌^◌, ◌≤◌, ◌<◌, ◌≡◌, Bool, true, false, eqb, length, drop, get_or}
+use Rattle.std.specs.Prelude.{ℕ, zero, suc, ◌+◌, ◌-◌, ◌*◌, ◌^◌, ◌≤◌, ◌<◌, ◌≡◌, Bool, true, false, eqb, length, drop, get_or, Some}
 use Rattle.std.proofs.Common.{arith, sym, ap₂, subst, ◌∙◌, eqb-true, ne_eqb, length-append}
 use Rattle.std.proofs.Math.Path.{refl, ap}
 use mathlib.Core.List.{List, [], ◌∷◌, ◌++◌, append-nil}
-use Rattle.std.proofs.Math.Option.{some}
 use Rattle.std.proofs.Math.ListN.{get_or-append}
 use Rattle.std.proofs.Math.Seq.{append_snoc, get_or-append_seam}
 use Rattle.std.proofs.lemmas.List.{get_or_at}
@@ -29,7 +28,7 @@ after_one : (s : Scan) (b n : ℕ) → s.comment ≡ false → length s.figures 
     → s.value * 10 + (b - 48) ≡ n → n ≤ limit_of (length s.figures) → after_byte s b ≡ read (with_value s n)
 after_one s b n plain room h e l =
     after-digit s b plain h
-    ∙ digit_value s b (some n) room (push_within (limit_of (length s.figures)) s.value b (omega (arith, e)) ∙ ap some e)
+    ∙ digit_value s b (Some n) room (push_within (limit_of (length s.figures)) s.value b (omega (arith, e)) ∙ ap Some e)
 
 -- Digits that do so, from a figure that is begun; others follow. They go on by some bytes.
 module _ (s : Scan) (plain : s.comment ≡ false) (room : length s.figures < figures_limit) (rest : List ℕ) where

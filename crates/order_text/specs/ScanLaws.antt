@@ -1,9 +1,8 @@
 -- The scan case by case: what each byte does, and how far a step goes on in the lines.
 -- Assumes nothing.
-use Rattle.std.specs.Prelude.{ℕ, ◌+◌, ◌≤◌, ◌<◌, ◌≡◌, refl, Bool, true, false, cond, List, leb, length, drop, get_or}
+use Rattle.std.specs.Prelude.{ℕ, ◌+◌, ◌≤◌, ◌<◌, ◌≡◌, refl, Bool, true, false, cond, List, leb, length, drop, get_or, Option, None, Some}
 use Rattle.std.proofs.Common.{arith, sym, subst, ◌∙◌, leb-false, le-leb, drop_of_length-le}
 use Rattle.std.proofs.Math.Path.{ap}
-use Rattle.std.proofs.Math.Option.{Option, none, some}
 use Rattle.std.proofs.lemmas.Bool.{lt-leb}
 use Rattle.encoding.specs.StoreLaws.{drop_next}
 use Rattle.typed_figures.specs.Decimal.{is_digit, pushed}
@@ -74,7 +73,7 @@ pub data Closes (s : Scan) : Scan → Type 0 where
   ended : s.begun ≡ true → Stands s true → Closes s (with_figure s)
 
 pub data Goes (s : Scan) (b : ℕ) : Scan → Type 0 where
-  inside : (n : ℕ) → length s.figures < figures_limit → pushed (limit_of (length s.figures)) s.value b ≡ some n → Goes s b (with_value s n)
+  inside : (n : ℕ) → length s.figures < figures_limit → pushed (limit_of (length s.figures)) s.value b ≡ Some n → Goes s b (with_value s n)
   past : {t : Scan} → Closes s t → Goes s b (passed t b)
 
 pub closes : (s t : Scan) → closed s ≡ read t → Closes s t
@@ -92,8 +91,8 @@ goes_inside s t b = go (leb figures_limit (length s.figures)) refl (pushed (limi
     go : (many : Bool) → leb figures_limit (length s.figures) ≡ many → (o : Option ℕ) → pushed (limit_of (length s.figures)) s.value b ≡ o
         → cond many (faulty (fault_at Many s)) (unless_above s o) ≡ read t → Goes s b t
     go true h o k e = absurd (read-faulty (sym e))
-    go false h none k e = absurd (read-faulty (sym e))
-    go false h (some n) k e = subst (Goes s b) (same_read e) (inside n (leb-false figures_limit (length s.figures) h) k)
+    go false h None k e = absurd (read-faulty (sym e))
+    go false h (Some n) k e = subst (Goes s b) (same_read e) (inside n (leb-false figures_limit (length s.figures) h) k)
 
 pub goes : (s t : Scan) (b : ℕ) → after_byte s b ≡ read t → Goes s b t
 goes s t b = go s.comment (is_digit b) (ends_figure b)

@@ -1,7 +1,6 @@
 -- An order typed as text: the scan of its bytes, its figures, the word around a place, and the order file.
 -- Assumes nothing.
-use Rattle.std.specs.Prelude.{ℕ, zero, suc, ◌+◌, min, Bool, true, false, cond, not, ◌&&◌, ◌||◌, List, [], ◌∷◌, ◌++◌, leb, eqb, length, take, drop, get_or}
-use Rattle.std.proofs.Math.Option.{Option, none, some}
+use Rattle.std.specs.Prelude.{ℕ, zero, suc, ◌+◌, min, Bool, true, false, cond, not, ◌&&◌, ◌||◌, List, [], ◌∷◌, ◌++◌, leb, eqb, length, take, drop, get_or, Option, None, Some, Result, Ok, Err}
 use Rattle.terms.specs.Answer.{Answer, figures, refused}
 use Rattle.terms.specs.Refusals.{number_of}
 use Rattle.encoding.specs.Number.{bytes_of_all}
@@ -13,8 +12,8 @@ use Rattle.typed_figures.specs.Figures.{demands_of, factor_stands, figures_limit
 use Rattle.order_text.specs.declared.faults.Reason.{Reason}
 use Rattle.order_text.specs.declared.faults.Reason.TheVariants.{Byte, Above, Factor, Many, Few}
 use Rattle.order_text.specs.declared.faults.Fault.{Fault}
-use Rattle.order_text.specs.declared.typed_orders.TextAnswer.{TextAnswer}
-use Rattle.order_text.specs.declared.typed_orders.TextAnswer.TheVariants.{Written, Faulty, Refused}
+use Rattle.order_text.specs.declared.faults.TextError.{TextError}
+use Rattle.order_text.specs.declared.faults.TextError.TheVariants.{Faulty, Refused}
 
 -- What a text gives, or its first fault.
 pub data Reading (A : Type 0) : Type 0 where
@@ -101,8 +100,8 @@ with_value s n =
     record { line = s.line; place = s.place + 1; returned = false; comment = s.comment; begun = true; value = n; figures = s.figures }
 
 abbrev pub unless_above : Scan → Option ℕ → Reading Scan
-unless_above s none = faulty (fault_at Above s)
-unless_above s (some n) = read (with_value s n)
+unless_above s None = faulty (fault_at Above s)
+unless_above s (Some n) = read (with_value s n)
 
 -- A digit goes to the figure that is begun, or begins one.
 abbrev pub with_digit : Scan → ℕ → Reading Scan
@@ -206,11 +205,11 @@ order_of room text = numbered (file_of room text)
 -- ---- The answer's cases
 
 -- … with the whole fault;
-abbrev pub text_says : TextAnswer → Reading (Answer ℕ)
-text_says (Written n) = read (figures n)
-text_says (Faulty x) = faulty x
-text_says (Refused x) = read (refused (number_of x))
+abbrev pub text_says : Result ℕ TextError → Reading (Answer ℕ)
+text_says (Ok n) = read (figures n)
+text_says (Err (Faulty x)) = faulty x
+text_says (Err (Refused x)) = read (refused (number_of x))
 
 -- … and in document 01's values and numbers.
-abbrev pub answered_by : TextAnswer → Answer ℕ
+abbrev pub answered_by : Result ℕ TextError → Answer ℕ
 answered_by r = numbered (text_says r)

@@ -23,12 +23,12 @@ pub copied_front : (xs old new : List ℕ) (n : ℕ) → n ≡ length xs → len
 copied_front xs old new n l room e = ap (take n) (e ∙ sets_front xs old room) ∙ take_at xs (drop (length xs) old) n (sym l)
 
 -- The order of these figures, written with what equals its tariff and its demands.
-pub order-written : (ns old : List ℕ) (t : Tariff) (ds : List ℕ) (r : Reading (Answer ℕ)) (n : Answer ℕ) (new : List ℕ) → t ≡ tariff_of ns → ds ≡ demands_of ns
-    → r ≡ read n → n ≡ on_figures length (write_order (length old) t ds) → new ≡ filled (write_order (length old) t ds) old
-    → (r ≡ read (on_figures length (write_figures (length old) ns))) × (new ≡ filled (write_figures (length old) ns) old)
-order-written ns old t ds r n new et ed er en e =
+pub order-written : (ns old : List ℕ) (t : Tariff) (ds : List ℕ) (r : Answer ℕ) (new : List ℕ) → t ≡ tariff_of ns → ds ≡ demands_of ns
+    → r ≡ on_figures length (write_order (length old) t ds) → new ≡ filled (write_order (length old) t ds) old
+    → (r ≡ on_figures length (write_figures (length old) ns)) × (new ≡ filled (write_figures (length old) ns) old)
+order-written ns old t ds r new et ed er e =
     let same = ap₂ (λ (u : Tariff) (xs : List ℕ). write_order (length old) u xs) et ed in
-    (er ∙ ap read en ∙ ap (λ (a : Answer (List ℕ)). read (on_figures length a)) same, e ∙ ap (λ (a : Answer (List ℕ)). filled a old) same)
+    (er ∙ ap (on_figures length) same, e ∙ ap (λ (a : Answer (List ℕ)). filled a old) same)
 
 module _ (text old : List ℕ) where
   -- r is answered, and the bytes that held `old` hold `new`.

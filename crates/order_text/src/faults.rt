@@ -1,6 +1,7 @@
 // What is wrong with a text.
 ghost use Rattle.std.specs.Prelude.{◌≡◌};
 ghost use Rattle.terms.specs.Refusals.{number_of};
+ghost use Rattle.order_text.specs.declared.faults.TextError.TheVariants.{Faulty, Refused};
 ghost use Rattle.order_text.specs.Text.{reason_number};
 
 use terms::Refusal;
@@ -31,14 +32,38 @@ pub struct Fault {
 }
 
 // The refusal that a fault for this reason is: 3 for too many or too few demands, 5 for any other.
-pub fn refusal_of(reason: Reason) -> Refusal
-    ensures { number_of result ≡ reason_number reason }
-{
-    match reason {
-        Reason::Byte => Refusal::Figure,
-        Reason::Above => Refusal::Figure,
-        Reason::Factor => Refusal::Figure,
-        Reason::Many => Refusal::Periods,
-        Reason::Few => Refusal::Periods,
+impl From<Reason> for Refusal {
+    ghost from_gives = { λ reason why. number_of why ≡ reason_number reason };
+
+    fn from(reason: Reason) -> Refusal {
+        match reason {
+            Reason::Byte | Reason::Above | Reason::Factor => Refusal::Figure,
+            Reason::Many | Reason::Few => Refusal::Periods,
+        }
+    }
+}
+
+// Why a text gives no order file.
+#[derive(Clone, Copy)]
+pub enum TextError {
+    // the first fault of the text
+    Faulty(Fault),
+    // the bytes are fewer than the file
+    Refused(Refusal),
+}
+
+impl From<Fault> for TextError {
+    ghost from_gives = { λ fault why. why ≡ Faulty fault };
+
+    fn from(fault: Fault) -> TextError {
+        TextError::Faulty(fault)
+    }
+}
+
+impl From<Refusal> for TextError {
+    ghost from_gives = { λ refusal why. why ≡ Refused refusal };
+
+    fn from(refusal: Refusal) -> TextError {
+        TextError::Refused(refusal)
     }
 }

@@ -20,12 +20,11 @@ fn word_start(text: &[u8], place: usize) -> usize
     ensures { result ≡ word_start text.now place }
 {
     let front = mark_length(text);
-    let mut start = place;
-    while 0 < start {
-        if (start == front) | ends_figure(text[start - 1]) {
+    for before in (0..place).rev() {
+        let start = before + 1;
+        if (start == front) | ends_figure(text[before]) {
             return start;
         }
-        start -= 1;
     }
     0
 }
@@ -36,12 +35,10 @@ fn word_end(text: &[u8], start: usize) -> usize
     ensures value { result ≡ start + word_length (drop start text.now) }
     ensures upper_bound { result ≤ length text.now }
 {
-    let mut end = start;
-    while end < text.len() {
+    for end in start..text.len() {
         if ends_figure(text[end]) {
             return end;
         }
-        end += 1;
     }
-    end
+    text.len()
 }

@@ -7,9 +7,8 @@ use Rattle.terms.specs.Refusals.{number_of}
 use Rattle.terms.specs.Limits.{cost_limit, trace_limit}
 use Rattle.terms.specs.Ranges.{periods_ok, record_ok}
 use Rattle.terms.specs.Records.{Cutting, record_of, run_length, run_rate, run_depth, total}
-use Rattle.record_list.specs.Held.{held}
 use Rattle.plan_file.specs.declared.answers.PlanFigures.{PlanFigures}
-use Rattle.plan_file.specs.declared.answers.PlanRecords.{PlanRecords}
+pub use Rattle.plan_file.specs.declared.answers.Recorded.{Recorded}
 use Rattle.encoding.specs.Number.{bytes_of, number_at, bytes_of_all, items_at}
 use Rattle.encoding.specs.Header.{placed_as}
 
@@ -62,12 +61,6 @@ records_ok T xs = all_ok xs && eqb (total run_length xs) T
 
 -- ---- Reading
 
--- Recorded, document 01's term: what reading a plan gives.
-pub record Recorded : Type 0 where
-  pub periods : ℕ
-  pub cost : ℕ
-  pub buckets : Cutting
-
 -- The record at a place of a file.
 abbrev pub record_at : List ℕ → ℕ → BucketRecord
 record_at bs at = record_of (number_at 4 bs at) (number_at 4 bs (at + 4)) (number_at 4 bs (at + 8))
@@ -108,10 +101,6 @@ recorded_figures = on_figures figures_in
 
 abbrev pub buckets_of : Answer Recorded → Answer Cutting
 buckets_of = on_figures (λ x. x.buckets)
-
--- Those figures, and the records at the front of an array, as a plan travels below the offered calls.
-abbrev pub in_array : Recorded → PlanRecords
-in_array x = record { figures = figures_in x; records = held (figures x.buckets) }
 
 -- ---- Writing
 

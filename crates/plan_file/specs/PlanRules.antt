@@ -4,7 +4,7 @@ use Rattle.std.specs.Prelude.{ℕ, ◌+◌, ◌≤◌, ◌≡◌, Bool, true, fa
 use Rattle.std.proofs.Common.{arith, sym, ap, ap₂, subst, ◌∙◌, leb-true, le-leb, eqb-true, eq-eqb, length-append}
 use Rattle.std.proofs.Math.Path.{refl}
 use Rattle.terms.specs.declared.BucketRecord.{BucketRecord}
-use Rattle.terms.specs.Answer.{Answer, figures, refused, weigh, on_figures}
+use Rattle.terms.specs.Answer.{Answer, figures, refused, weigh}
 use Rattle.terms.specs.AnswerLaws.{same-figures, weigh-figures, on_figures_lem, then_figures, then_refused, then_found}
 use Rattle.terms.specs.Bools.{and_three, both_and}
 use Rattle.terms.specs.Limits.{cost_limit, trace_limit}
@@ -17,9 +17,8 @@ use Rattle.encoding.specs.Number.{bytes_of, number_at, bytes_of_all}
 use Rattle.encoding.specs.NumberLaws.{length_items, length-bytes, length_all}
 use Rattle.encoding.specs.Header.{Placed, placed_as}
 use Rattle.encoding.specs.HeaderLaws.{placed_range, placed_ok}
-use Rattle.record_list.specs.Held.{held}
 use Rattle.plan_file.specs.RecordLaws.{RecordsRange, records_range, records_ok_lem}
-use Rattle.plan_file.specs.Plan.{Recorded, figures_in, plan_kind, cost_offset, buckets_offset, plan_length, plan_bytes, counts_ok, records_ok, records_in, plan_in, fitting, read_plan, recorded_figures, in_array, plan_words, record_bytes, plan_file}
+use Rattle.plan_file.specs.Plan.{Recorded, figures_in, plan_kind, cost_offset, buckets_offset, plan_length, plan_bytes, counts_ok, records_ok, records_in, plan_in, fitting, read_plan, recorded_figures, plan_words, record_bytes, plan_file}
 
 -- T and k in their ranges, as orders of numbers.
 pub record CountsRange (T k : ℕ) : Type 0 where
@@ -127,14 +126,12 @@ read_range bs x e =
     let r = read_rules bs x e in
     subst (λ (y : Recorded). RecordsRange y.periods y.buckets) (sym r.1) r.0.records
 
--- The figures that are answered, from the numbers that are read.
-pub figures_are : (bs : List ℕ) (T k cost : ℕ) → T ≡ number_at 4 bs 4 → k ≡ number_at 4 bs 8 → cost ≡ number_at 8 bs cost_offset
-    → figures (record { periods = T; buckets = k; cost = cost }) ≡ recorded_figures (figures (recorded_in bs))
-figures_are bs T k cost e f g =
-    let l : k ≡ length (buckets_in bs) = f ∙ sym (length_items _ 12 (number_at 4 bs 8) buckets_offset) in
-    rw (e, g) (ap (λ (n : ℕ). figures (record { periods = number_at 4 bs 4; buckets = n; cost = number_at 8 bs cost_offset })) l)
+-- What is answered, from the numbers and the records that are read.
+pub read_from : (bs : List ℕ) (T k cost : ℕ) (xs : Cutting) → T ≡ number_at 4 bs 4 → k ≡ number_at 4 bs 8 → cost ≡ number_at 8 bs cost_offset → xs ≡ records_in k bs
+    → record { periods = T; cost = cost; buckets = xs } ≡ recorded_in bs
+read_from bs T k cost xs e f g h = rw (h, e, f, g) refl
 
--- ---- Reading into an array
+-- ---- The figures of a plan that is read
 
 -- A plan with the figures y is read.
 pub record IsPlan (bs : List ℕ) (y : PlanFigures) : Type 0 where
@@ -174,19 +171,6 @@ read_whole bs = go (plan_in bs) refl
     go : (a : Answer Recorded) → plan_in bs ≡ a → read_plan trace_limit bs ≡ plan_in bs
     go (figures x) e = read_fits trace_limit bs x e (plan-few bs (figures_in x) (sym (ap recorded_figures e))) ∙ sym e
     go (refused n) e = sym (then_refused (plan_in bs) (fitting trace_limit) e) ∙ sym e
-
-module _ (bs : List ℕ) (room : ℕ) where
-  -- What is read is answered once its records are loaded.
-  pub read_loaded : (y : PlanFigures) → IsPlan bs y → leb y.buckets room ≡ true → figures y ≡ recorded_figures (plan_in bs)
-      → (records : Cutting) → records ≡ held (figures (records_in y.buckets bs))
-      → figures (record { figures = y; records = records }) ≡ on_figures in_array (read_plan room bs)
-  read_loaded y p h e records f =
-      let count : length (buckets_in bs) ≡ y.buckets = length_items _ 12 (number_at 4 bs 8) buckets_offset ∙ p.is_count in
-      let g = read_fits room bs (recorded_in bs) p.is_read (omega (arith, count, leb-true y.buckets room h)) in
-      let same : y ≡ figures_in (recorded_in bs) = same-figures (e ∙ ap recorded_figures p.is_read) in
-      let laid : records ≡ held (figures (buckets_in bs)) = f ∙ ap (λ (n : ℕ). held (figures (records_in n bs))) (sym p.is_count) in
-      ap₂ (λ (z : PlanFigures) (xs : Cutting). figures (record { figures = z; records = xs })) same laid
-      ∙ ap (on_figures in_array) (sym g)
 
 -- ---- Writing, rule by rule
 

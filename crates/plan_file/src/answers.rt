@@ -1,6 +1,8 @@
-// What a plan holds beside its bucket records, and a plan that is read.
-use terms::BucketRecord;
-use terms::limits::TRACE_LIMIT;
+// What a plan holds: its figures, and with them its bucket records.
+ghost use Rattle.std.specs.Prelude.{◌≡◌};
+ghost use Rattle.plan_file.specs.Plan.{figures_in};
+
+use record_list::records::Records;
 
 // T, the number of buckets and the cost.
 #[derive(Clone, Copy)]
@@ -10,9 +12,23 @@ pub struct PlanFigures {
     pub cost: u64,
 }
 
-// A plan that is read: its figures, and at the front of an array its records.
-#[derive(Clone, Copy)]
-pub struct PlanRecords {
-    pub figures: PlanFigures,
-    pub records: [BucketRecord; TRACE_LIMIT],
+// Recorded, document 01's term: what reading a plan gives.
+#[derive(Drop)]
+pub struct Recorded {
+    pub periods: u32,
+    pub cost: u64,
+    pub buckets: Records,
+}
+
+impl Recorded {
+    pub fn figures(&self) -> PlanFigures
+        ensures { result ≡ figures_in self.now }
+    {
+        let buckets = self.buckets.as_slice().len() as u32;
+        PlanFigures {
+            periods: self.periods,
+            buckets,
+            cost: self.cost,
+        }
+    }
 }

@@ -1,34 +1,31 @@
-// The plan file read into an array of records. Public only for the crates above.
+// The plan file read. Public only for the crates above.
 ghost use Rattle.std.specs.Prelude.{◌≡◌};
-ghost use Rattle.terms.specs.Answer.{on_figures};
 ghost use Rattle.terms.specs.Refusals.{says};
-ghost use Rattle.plan_file.specs.Plan.{in_array, recorded_figures, plan_in, read_plan, VeryPlan};
+ghost use Rattle.plan_file.specs.Plan.{plan_in, read_plan, VeryPlan};
 
-use crate::answers::{PlanFigures, PlanRecords};
+use crate::answers::Recorded;
 use crate::layout::{BUCKETS_OFFSET, COST_OFFSET, PLAN_KIND, RECORD_BYTES, counts_in_range};
-use crate::records::{load_array, records_in_file};
+use crate::records::{load_records, records_in_range};
 use encoding::headers::placed;
 use encoding::numbers::{number_at, word_at};
 use terms::Refusal;
 use terms::limits::COST_LIMIT;
 
 // Plan reading for a list of `room` records.
-pub fn read_records(bytes: &[u8], room: usize) -> Result<PlanRecords, Refusal>
-    ensures result_value { says result ≡ on_figures in_array (read_plan room bytes.now) }
+pub fn read_records(bytes: &[u8], room: usize) -> Result<Recorded, Refusal>
+    ensures result_value { says result ≡ read_plan room bytes.now }
     ensures very_plan { VeryPlan bytes.now (read_plan room bytes.now) }
 {
-    let figures = plan_in(bytes)?;
-    let buckets = figures.buckets as usize;
-    if room < buckets {
+    let plan = plan_in(bytes)?;
+    if room < plan.buckets.as_slice().len() {
         return Err(Refusal::List);
     }
-    let records = load_array(bytes, buckets);
-    Ok(PlanRecords { figures, records })
+    Ok(plan)
 }
 
-// Weighs all that a plan file holds: its figures, or refusal 1 to 5.
-fn plan_in(bytes: &[u8]) -> Result<PlanFigures, Refusal>
-    ensures { says result ≡ recorded_figures (plan_in bytes.now) }
+// Weighs all that a plan file holds; or refusal 1 to 5.
+fn plan_in(bytes: &[u8]) -> Result<Recorded, Refusal>
+    ensures { says result ≡ plan_in bytes.now }
 {
     if bytes.len() < COST_OFFSET {
         return Err(Refusal::Short);
@@ -37,11 +34,11 @@ fn plan_in(bytes: &[u8]) -> Result<PlanFigures, Refusal>
         return Err(Refusal::Foreign);
     }
     let periods = word_at(bytes, 4);
-    let buckets = word_at(bytes, 8);
-    if !counts_in_range(periods, buckets) {
+    let count = word_at(bytes, 8);
+    if !counts_in_range(periods, count) {
         return Err(Refusal::Periods);
     }
-    let length = BUCKETS_OFFSET + RECORD_BYTES * buckets as usize;
+    let length = BUCKETS_OFFSET + RECORD_BYTES * count as usize;
     if !placed(bytes, 12, COST_OFFSET, BUCKETS_OFFSET, length) {
         return Err(Refusal::Misplaced);
     }
@@ -49,12 +46,13 @@ fn plan_in(bytes: &[u8]) -> Result<PlanFigures, Refusal>
     if COST_LIMIT < cost {
         return Err(Refusal::Figure);
     }
-    if !records_in_file(bytes, periods, buckets as usize) {
+    let buckets = load_records(bytes, count as usize);
+    if !records_in_range(periods, buckets.as_slice()) {
         return Err(Refusal::Figure);
     }
-    Ok(PlanFigures {
+    Ok(Recorded {
         periods,
-        buckets,
         cost,
+        buckets,
     })
 }

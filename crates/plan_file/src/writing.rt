@@ -1,4 +1,4 @@
-// The plan file written from an array of records. Public only for the crates above.
+// The plan file written from a list of records.
 ghost use Rattle.std.specs.Prelude.{◌≤◌, ◌≡◌, ◌++◌, length, take};
 ghost use Rattle.std.proofs.lemmas.List.Edits.{sets};
 ghost use Rattle.terms.specs.Answer.{on_figures};
@@ -6,24 +6,21 @@ ghost use Rattle.terms.specs.Lent.{filled};
 ghost use Rattle.terms.specs.Limits.{trace_limit};
 ghost use Rattle.terms.specs.Refusals.{says};
 ghost use Rattle.encoding.specs.Number.{bytes_of, bytes_of_all};
-ghost use Rattle.plan_file.specs.Plan.{plan_file, plan_words};
+ghost use Rattle.plan_file.specs.Plan.{plan_words, write_plan};
 
 use crate::answers::PlanFigures;
 use crate::layout::{BUCKETS_OFFSET, COST_OFFSET, PLAN_KIND, RECORD_BYTES, counts_in_range};
 use crate::records::{put_records, records_in_range};
 use encoding::numbers::{put_number, put_words};
-use terms::limits::{COST_LIMIT, TRACE_LIMIT};
+use terms::limits::COST_LIMIT;
 use terms::{BucketRecord, Refusal};
 
-// Plan writing from a list of `room` records, of which the array holds the first.
-pub fn write_records(
-    plan: PlanFigures,
-    room: usize,
-    records: [BucketRecord; TRACE_LIMIT],
-    bytes: &mut [u8],
-) -> Result<usize, Refusal>
-    ensures result_value { says result ≡ on_figures length (plan_file room (length bytes.old) plan (take plan.buckets records)) }
-    ensures bytes_after { bytes.new ≡ filled (plan_file room (length bytes.old) plan (take plan.buckets records)) bytes.old }
+// Writes a plan into the front of the bytes, its records from the front of the list, and answers its
+// length; or refusal 3, 5 or 6 (a list with fewer entries than buckets, whose records are then not
+// weighed, or bytes fewer than the file), and the bytes are as they were.
+pub fn write_plan(plan: PlanFigures, list: &[BucketRecord], bytes: &mut [u8]) -> Result<usize, Refusal>
+    ensures result_value { says result ≡ on_figures length (write_plan (length bytes.old) plan list.now) }
+    ensures bytes_after { bytes.new ≡ filled (write_plan (length bytes.old) plan list.now) bytes.old }
 {
     if !counts_in_range(plan.periods, plan.buckets) {
         return Err(Refusal::Periods);
@@ -32,10 +29,11 @@ pub fn write_records(
         return Err(Refusal::Figure);
     }
     let buckets = plan.buckets as usize;
-    if room < buckets {
+    if list.len() < buckets {
         return Err(Refusal::List);
     }
-    if !records_in_range(plan.periods, buckets, records) {
+    let records = &list[..buckets];
+    if !records_in_range(plan.periods, records) {
         return Err(Refusal::Figure);
     }
     let length = BUCKETS_OFFSET + RECORD_BYTES * buckets;
@@ -43,7 +41,7 @@ pub fn write_records(
         return Err(Refusal::List);
     }
     put_header(bytes, plan);
-    put_records(bytes, BUCKETS_OFFSET, buckets, records);
+    put_records(bytes, BUCKETS_OFFSET, records);
     Ok(length)
 }
 

@@ -1,5 +1,3 @@
--- Bucket records in an array, and their laws.
+-- Bucket records in a list, and their laws.
 pub mod Held
-pub mod HeldLaws
-pub mod FrontLaws
 pub mod PartLaws

@@ -1,8 +1,6 @@
-// Bucket records in an array by value, with room for the longest plan. Public only for the crates
-// above, which show what is required.
-ghost use Rattle.std.specs.Prelude.{◌<◌, ◌≡◌, get_or, set};
-ghost use Rattle.terms.specs.Limits.{trace_limit};
-ghost use Rattle.record_list.specs.Held.{blank, no_record};
+// An array with room for the longest plan's records. Public for the crates above.
+ghost use Rattle.std.specs.Prelude.{◌≡◌};
+ghost use Rattle.record_list.specs.Held.{blank};
 
 use terms::limits::TRACE_LIMIT;
 use terms::{Bucket, BucketRecord, Depth, Rate};
@@ -19,26 +17,4 @@ pub fn blank_records() -> [BucketRecord; TRACE_LIMIT]
         },
     };
     [none; TRACE_LIMIT]
-}
-
-// The record at an index.
-pub fn record_at(records: [BucketRecord; TRACE_LIMIT], i: usize) -> BucketRecord
-    requires { i < trace_limit }
-    ensures { result ≡ get_or records i no_record }
-{
-    records[i]
-}
-
-// The records with another at an index.
-pub fn with_record(
-    records: [BucketRecord; TRACE_LIMIT],
-    i: usize,
-    record: BucketRecord,
-) -> [BucketRecord; TRACE_LIMIT]
-    requires { i < trace_limit }
-    ensures { result ≡ set records i «record» }
-{
-    let mut records = records;
-    records[i] = record;
-    records
 }

@@ -6,7 +6,6 @@ use Rattle.std.specs.Prelude.{ℕ, ◌≤◌, ◌≡◌, Bool, false, List, leb,
 use Rattle.terms.specs.declared.BucketRecord.{BucketRecord}
 use Rattle.terms.specs.declared.Tariff.{Tariff}
 use Rattle.terms.specs.Answer.{Answer, figures, refused, weigh, on_figures}
-use Rattle.record_list.specs.Held.{held}
 use Rattle.terms.specs.Ranges.{periods_ok, tariff_ok}
 use Rattle.terms.specs.Records.{Cutting, run_length, total}
 use Rattle.single.specs.declared.costs.Priced.{Priced}
@@ -67,6 +66,6 @@ series_of t room ds = weigh (periods_ok (length ds)) 3 (weigh (tariff_ok t) 5 (w
 abbrev pub plan_of : Tariff → Answer Cutting → Answer Plan
 plan_of t = on_figures (λ xs. record { buckets = length xs; cost = true_cost_of t xs })
 
--- The same with the records at the front of an array, as a plan travels below the offered calls.
+-- The same with the records, as a plan travels below the offered calls.
 abbrev pub found_of : Tariff → Cutting → SeriesRecords
-found_of t xs = record { plan = record { buckets = length xs; cost = true_cost_of t xs }; records = held (figures xs) }
+found_of t xs = record { plan = record { buckets = length xs; cost = true_cost_of t xs }; records = xs }

@@ -1,6 +1,5 @@
 // What the series answers.
-use terms::BucketRecord;
-use terms::limits::TRACE_LIMIT;
+use record_list::records::Records;
 
 // A plan's number of buckets and its cost.
 #[derive(Clone, Copy)]
@@ -9,9 +8,9 @@ pub struct Plan {
     pub cost: u64,
 }
 
-// A plan found, with its records at the front of an array.
-#[derive(Clone, Copy)]
+// A plan found, with its records.
+#[derive(Drop)]
 pub struct SeriesRecords {
     pub plan: Plan,
-    pub records: [BucketRecord; TRACE_LIMIT],
+    pub records: Records,
 }

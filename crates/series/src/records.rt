@@ -3,31 +3,27 @@
 ghost use Rattle.std.specs.Prelude.{◌≡◌, length};
 ghost use Rattle.terms.specs.Answer.{figures};
 ghost use Rattle.terms.specs.RangeRules.{PeriodsRange, TariffRange};
-ghost use Rattle.record_list.specs.Held.{held};
 ghost use Rattle.series.specs.RecordLaws.{Firsts, HasBucket};
 ghost use Rattle.series.specs.Series.{cheapest_cut, run_record};
 
-use record_list::arrays::blank_records;
+use record_list::records::Records;
 use single::single;
-use terms::limits::TRACE_LIMIT;
 use terms::{Bucket, BucketRecord, Depth, Rate, Tariff};
 
 // Each run's length and the single bucket of its own part of the trace, first run to last.
-pub fn record_runs(trace: &[u16], tariff: Tariff, firsts: &[u32]) -> [BucketRecord; TRACE_LIMIT]
+pub fn record_runs(trace: &[u16], tariff: Tariff, firsts: &[u32]) -> Records
     requires periods_range { PeriodsRange (length trace.now) }
     requires tariff_range { TariffRange tariff }
     requires firsts { Firsts tariff trace.now firsts.now }
-    ensures { result ≡ held (cheapest_cut tariff trace.now) }
+    ensures { figures result ≡ cheapest_cut tariff trace.now }
 {
-    let mut records = blank_records();
+    let mut records = Records::new();
     let mut start = 0;
-    let mut k = 0;
     while start < trace.len() {
         let periods = firsts[start];
         let end = start + periods as usize;
         let bucket = bucket_of(&trace[start..end], tariff);
-        records[k] = BucketRecord { periods, bucket };
-        k += 1;
+        records.push(BucketRecord { periods, bucket });
         start = end;
     }
     records

@@ -9,9 +9,8 @@ ghost use Rattle.services.specs.Services.{depth_for, depth_from_end_for, explain
 use bucket::{TrialFigures, trial};
 use causes::{Explained, explain};
 use depth::{depth_at, depth_from_end};
-use order_file::spreads::spread_order;
+use order_file::ordered::Ordered;
 use single::{Priced, single};
-use terms::limits::TRACE_LIMIT;
 use terms::{Bucket, Depth, Rate, Refusal};
 
 // The smallest depth that carries an order's trace at a rate; or refusal 1 to 5 of the order, 5 of the
@@ -19,48 +18,38 @@ use terms::{Bucket, Depth, Rate, Refusal};
 pub fn depth_for(order: &[u8], rate: Rate) -> Result<Depth, Refusal>
     ensures { depth_says result ≡ depth_for rate.0 order.now }
 {
-    let mut demands = [0u16; TRACE_LIMIT];
-    let found = spread_order(order, &mut demands)?;
-    let tariff = found.tariff;
-    depth_at(&demands[..found.periods as usize], rate, tariff)
+    let order = Ordered::read(order)?;
+    depth_at(order.trace(), rate, order.order().tariff)
 }
 
 // The same where the order's demands stand in archive order, last period first.
 pub fn depth_from_end_for(order: &[u8], rate: Rate) -> Result<Depth, Refusal>
     ensures { depth_says result ≡ depth_from_end_for rate.0 order.now }
 {
-    let mut demands = [0u16; TRACE_LIMIT];
-    let found = spread_order(order, &mut demands)?;
-    let tariff = found.tariff;
-    depth_from_end(&demands[..found.periods as usize], rate, tariff)
+    let order = Ordered::read(order)?;
+    depth_from_end(order.trace(), rate, order.order().tariff)
 }
 
 // The smallest depth that carries an order's trace at a rate, with its cause; or the same refusals.
 pub fn explain_for(order: &[u8], rate: Rate) -> Result<Explained, Refusal>
     ensures { explain_says result ≡ explain_for rate.0 order.now }
 {
-    let mut demands = [0u16; TRACE_LIMIT];
-    let found = spread_order(order, &mut demands)?;
-    let tariff = found.tariff;
-    explain(&demands[..found.periods as usize], rate, tariff)
+    let order = Ordered::read(order)?;
+    explain(order.trace(), rate, order.order().tariff)
 }
 
 // The single bucket for an order; or refusal 1 to 5 of the order or 7.
 pub fn single_for(order: &[u8]) -> Result<Priced, Refusal>
     ensures { says result ≡ single_for order.now }
 {
-    let mut demands = [0u16; TRACE_LIMIT];
-    let found = spread_order(order, &mut demands)?;
-    let tariff = found.tariff;
-    single(&demands[..found.periods as usize], tariff)
+    let order = Ordered::read(order)?;
+    single(order.trace(), order.order().tariff)
 }
 
 // The trial of a bucket on an order's trace; or refusal 1 to 5 of the order or 5 of the bucket.
 pub fn trial_for(order: &[u8], bucket: Bucket) -> Result<TrialFigures, Refusal>
     ensures { says result ≡ trial_for bucket order.now }
 {
-    let mut demands = [0u16; TRACE_LIMIT];
-    let found = spread_order(order, &mut demands)?;
-    let factor = found.tariff.factor;
-    trial(bucket, factor, &demands[..found.periods as usize])
+    let order = Ordered::read(order)?;
+    trial(bucket, order.order().tariff.factor, order.trace())
 }

@@ -1,6 +1,7 @@
 // One text: what it shows, and what the call answers.
-use order_text::{Fault, Reason, TextAnswer, order_of_text, refusal_of};
+use order_text::{Fault, Reason, TextError, order_of_text};
 use samples::file_bytes::{LENT, LENT_BYTES, checksum, is_lent, lent_front};
+use terms::Refusal;
 
 // A text written into so many bytes.
 pub fn into(rt: &impl Print, name: &[u8], text: &[u8], lent: usize) {
@@ -9,7 +10,8 @@ pub fn into(rt: &impl Print, name: &[u8], text: &[u8], lent: usize) {
     report::words(rt, name);
     report::words(rt, b":");
     print(rt, answer);
-    let length = written_of(answer);
+    // 0 where none is written
+    let length = answer.unwrap_or(0);
     if 0 < length {
         report::words(rt, b" checksum");
         report::number(rt, checksum(&bytes, length) as u64);
@@ -17,11 +19,11 @@ pub fn into(rt: &impl Print, name: &[u8], text: &[u8], lent: usize) {
     report::kept(rt, is_lent(&bytes, length));
 }
 
-pub fn print(rt: &impl Print, answer: TextAnswer) {
+pub fn print(rt: &impl Print, answer: Result<usize, TextError>) {
     match answer {
-        TextAnswer::Written(length) => report::figure(rt, b" written", length as u64),
-        TextAnswer::Faulty(fault) => print_fault(rt, fault),
-        TextAnswer::Refused(refusal) => report::refusal(rt, refusal),
+        Ok(length) => report::figure(rt, b" written", length as u64),
+        Err(TextError::Faulty(fault)) => print_fault(rt, fault),
+        Err(TextError::Refused(refusal)) => report::refusal(rt, refusal),
     }
 }
 
@@ -36,13 +38,5 @@ fn print_fault(rt: &impl Print, fault: Fault) {
         Reason::Many => report::words(rt, b" many"),
         Reason::Few => report::words(rt, b" few"),
     }
-    report::refusal(rt, refusal_of(reason));
-}
-
-// The length of the file; 0 where none is written.
-fn written_of(answer: TextAnswer) -> usize {
-    match answer {
-        TextAnswer::Written(length) => length,
-        TextAnswer::Faulty(_) | TextAnswer::Refused(_) => 0,
-    }
+    report::refusal(rt, Refusal::from(reason));
 }

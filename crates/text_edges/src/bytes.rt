@@ -2,7 +2,7 @@
 // is printed.
 use crate::answers::print;
 use cases::{PLAIN_ROOM, plain_text};
-use order_text::{Fault, Reason, TextAnswer, order_of_text};
+use order_text::{Fault, Reason, TextError, order_of_text};
 use samples::file_bytes::{FILE_ROOM, LENT};
 
 // How many bytes there are.
@@ -31,10 +31,10 @@ fn between(rt: &impl Print, text: [u8; PLAIN_ROOM], length: usize, byte: u8) {
     report::end_line(rt);
 }
 
-fn is_fault_there(answer: TextAnswer) -> bool {
+fn is_fault_there(answer: Result<usize, TextError>) -> bool {
     match answer {
-        TextAnswer::Faulty(fault) => is_there(fault),
-        TextAnswer::Written(_) | TextAnswer::Refused(_) => false,
+        Err(TextError::Faulty(fault)) => is_there(fault),
+        _ => false,
     }
 }
 

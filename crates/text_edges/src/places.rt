@@ -1,5 +1,5 @@
 // The word around each place of a text, and the places of faults with the words around them.
-use order_text::{TextAnswer, order_of_text, word_around};
+use order_text::{TextError, order_of_text, word_around};
 use samples::file_bytes::{FILE_ROOM, LENT};
 
 // The lengths of the words around all places of a text, and around some behind it.
@@ -25,7 +25,7 @@ fn length(rt: &impl Print, text: &[u8], place: usize) {
 // The place of a fault, and the word around it.
 pub fn fault(rt: &impl Print, text: &[u8]) {
     let mut file = [LENT; FILE_ROOM];
-    let TextAnswer::Faulty(fault) = order_of_text(text, &mut file) else {
+    let Err(TextError::Faulty(fault)) = order_of_text(text, &mut file) else {
         return;
     };
     report::figure(rt, b"fault at", fault.place as u64);

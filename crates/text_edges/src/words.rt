@@ -1,5 +1,5 @@
 // Words as numbers.
-use typed_figures::{NumberAnswer, number_of};
+use typed_figures::number_of;
 
 // What a word of digits stands for, or that it is none.
 pub fn print_number(rt: &impl Print, word: &[u8]) {
@@ -7,8 +7,8 @@ pub fn print_number(rt: &impl Print, word: &[u8]) {
     report::words(rt, word);
     report::words(rt, b"]:");
     match number_of(word) {
-        NumberAnswer::Number(n) => report::number(rt, n as u64),
-        NumberAnswer::NoNumber => report::words(rt, b" no number"),
+        Some(n) => report::number(rt, n as u64),
+        None => report::words(rt, b" no number"),
     }
     report::end_line(rt);
 }

@@ -5,7 +5,6 @@
 use console::{ORDER_ROOM, has_words, number_argument, print, read_all};
 use services::{LONGEST_TRIAL, trial_line};
 use terms::{Bucket, Depth, Rate};
-use typed_figures::NumberAnswer;
 
 fn main(rt: HostRuntime) {
     if !has_words(
@@ -17,7 +16,7 @@ fn main(rt: HostRuntime) {
     ) {
         return;
     }
-    let NumberAnswer::Number(rate) = number_argument(
+    let Some(rate) = number_argument(
         &rt,
         &rt.stderr(),
         1,
@@ -26,7 +25,7 @@ fn main(rt: HostRuntime) {
     ) else {
         return;
     };
-    let NumberAnswer::Number(depth) = number_argument(
+    let Some(depth) = number_argument(
         &rt,
         &rt.stderr(),
         2,

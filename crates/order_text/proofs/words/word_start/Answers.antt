@@ -1,34 +1,31 @@
 -- The word around the place reached begins where the one around the place asked does.
-use Prim.Native.Nat.{ℕ, ◌≤◌, ◌-◌}
+use Prim.Native.Nat.{ℕ, ◌-◌, ◌+◌, ◌<◌}
 use native.Mathlib.Omega.{arith}
-use mathlib.Core.Path.{◌≡◌, refl, sym, ap₂, ◌∙◌}
-use mathlib.Core.Bool.{Bool, true, false, ◌||◌}
-use borrow.Author.Rules.{rules}
+use mathlib.Core.Path.{◌≡◌, sym, ◌∙◌}
+use mathlib.Core.List.{List}
+use mathlib.Core.Bool.{Bool, true, false, cond, ◌||◌}
 use lib.Dec.{eqb}
-use lib.ListN.{length}
-use Rattle.order_text.specs.Text.{word_start}
-use Rattle.order_text.specs.WordLaws.{begins, start_is, start_inside}
+use Rattle.order_text.specs.Text.{mark_length, ends_figure, word_start}
+use Rattle.order_text.specs.WordLaws.{start_is, start_inside}
 use Rattle.order_text.proofs.words.word_start.Goals as goal
+use lib.ListN.{get_or}
 
-pub loop-start-init : goal.loop-start-init
-loop-start-init c = (c.requires, refl)
-
-pub bounds-text-start : goal.bounds-text-start
-bounds-text-start c = omega (arith, c.loop-start.invariant.0, c.loop-start-test.true)
+-- One byte back: what the two tests of the code come to decides where the word begins.
+back : (text : List ℕ) (n front : ℕ) (ends t : Bool) → 0 < n → front ≡ mark_length text → ends ≡ ends_figure (get_or text (n - 1) 0)
+    → eqb (n - 1 + 1) front || ends ≡ t → word_start text n ≡ cond t n (word_start text (n - 1))
+back text n front ends t l e f h =
+    let m : n - 1 + 1 ≡ n = omega arith in
+    start_is text t n l (rw (← e, ← f, ← m) h)
 
 pub returns-then-start-front : goal.returns-then-start-front
 returns-then-start-front c =
-    let tests : begins c.args.text.now c.loop-start.start (c.loop-start.start - 1) ≡ eqb c.loop-start.start c.mark_length-front.result || c.ends_figure.result = ap₂ (λ (n : ℕ) (t : Bool). eqb c.loop-start.start n || t) (sym c.mark_length-front.ensures) (sym c.ends_figure.ensures) in
-    sym (start_is _ true _ c.loop-start-test.true (tests ∙ c.if-start-front.true)) ∙ c.loop-start.invariant.1
+    let e = back c.args.text.now c.loop-before.before _ _ true c.loop-before-test.true c.mark_length-front.ensures c.ends_figure.ensures c.if-start-front.true in
+    omega (arith, c.loop-before-test.true, e, c.loop-before.invariant)
 
-pub loop-start-smaller : goal.loop-start-smaller
-loop-start-smaller c = omega (arith, c.loop-start-test.true)
-
-pub loop-start-preserved : goal.loop-start-preserved
-loop-start-preserved c =
-    let tests : begins c.args.text.now c.loop-start.start (c.loop-start.start - 1) ≡ eqb c.loop-start.start c.mark_length-front.result || c.ends_figure.result = ap₂ (λ (n : ℕ) (t : Bool). eqb c.loop-start.start n || t) (sym c.mark_length-front.ensures) (sym c.ends_figure.ensures) in
-    let v = c.loop-start.invariant in
-    (omega (arith, v.0), sym (start_is _ false _ c.loop-start-test.true (tests ∙ c.if-start-front.false)) ∙ v.1)
+pub loop-before-preserved : goal.loop-before-preserved
+loop-before-preserved c =
+    let e = back c.args.text.now c.loop-before.before _ _ false c.loop-before-test.true c.mark_length-front.ensures c.ends_figure.ensures c.if-start-front.false in
+    sym e ∙ c.loop-before.invariant
 
 pub returns : goal.returns
-returns c = omega (arith, c.loop-start.invariant.1, start_inside c.args.text.now c.loop-start.start, c.loop-start-test.false)
+returns c = omega (arith, c.loop-before.invariant, start_inside c.args.text.now c.loop-before.before, c.loop-before-test.false)

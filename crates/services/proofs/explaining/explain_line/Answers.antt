@@ -3,6 +3,7 @@ use Prim.Native.Nat.{◌≤◌}
 use native.Mathlib.Omega.{arith}
 use mathlib.Core.Path.{◌≡◌, sym, ap, ◌∙◌}
 use lib.ListN.{length}
+use Rattle.std.proofs.lemmas.Result.{err_from_is_err_and}
 use Rattle.terms.specs.Answer.{figures}
 use Rattle.causes.specs.Cause.{explain_says, explained_says}
 use Rattle.encoding.specs.FillLaws.{refused_fills, found_fills}
@@ -13,33 +14,34 @@ use Rattle.services.specs.Services.{explain_for, explained_line}
 use borrow.Author.Rules.{rules}
 use Rattle.services.proofs.explaining.explain_line.Goals as goal
 
-pub returns-in-Err : goal.returns-in-Err
-returns-in-Err c =
-    let all = refused_fills _ _ _ _ (sym c.explain_for.ensures ∙ ap explain_says c.in-Err.is) in
-    record { result_value = all.0; text_after = all.1 }
+pub returns-in_err-explained : goal.returns-in_err-explained
+returns-in_err-explained c =
+    let p = err_from_is_err_and c.from_residual.result c.from_residual.ensures.1 in
+    let all = refused_fills _ _ _ _ (sym c.in_err-explained.ensures) in
+    rw (p.1, p.2) (record { result_value = all.0; text_after = all.1 })
 
 pub put_explained-length-requires : goal.put_explained-length-requires
 put_explained-length-requires c =
-    let found : explain_for c.args.rate.0 c.args.order.now ≡ figures (explained_says c.in-Ok.x) = sym c.explain_for.ensures ∙ ap explain_says c.in-Ok.is in
-    let room : length (explained_line (explained_says c.in-Ok.x)) ≤ length (zeros longest_explained) = omega (arith, explained-line-short _ _ _ (found)) in
+    let found : explain_for c.args.rate.0 c.args.order.now ≡ figures (explained_says c.in_ok-explained.explained) = sym c.explain_for.ensures ∙ ap explain_says c.in_ok-explained.was in
+    let room : length (explained_line (explained_says c.in_ok-explained.explained)) ≤ length (zeros longest_explained) = omega (arith, explained-line-short _ _ _ (found)) in
     omega (arith, room)
 
 pub slice_bounds-ready-end : goal.slice_bounds-ready-end
 slice_bounds-ready-end c =
-    let found : explain_for c.args.rate.0 c.args.order.now ≡ figures (explained_says c.in-Ok.x) = sym c.explain_for.ensures ∙ ap explain_says c.in-Ok.is in
-    let room : length (explained_line (explained_says c.in-Ok.x)) ≤ length (zeros longest_explained) = omega (arith, explained-line-short _ _ _ (found)) in
+    let found : explain_for c.args.rate.0 c.args.order.now ≡ figures (explained_says c.in_ok-explained.explained) = sym c.explain_for.ensures ∙ ap explain_says c.in_ok-explained.was in
+    let room : length (explained_line (explained_says c.in_ok-explained.explained)) ≤ length (zeros longest_explained) = omega (arith, explained-line-short _ _ _ (found)) in
     ready_inside (zeros longest_explained) _ (room) _ _ c.put_explained-length.ensures
 
 pub slice_bounds-fill-end : goal.slice_bounds-fill-end
 slice_bounds-fill-end c =
-    let found : explain_for c.args.rate.0 c.args.order.now ≡ figures (explained_says c.in-Ok.x) = sym c.explain_for.ensures ∙ ap explain_says c.in-Ok.is in
-    let room : length (explained_line (explained_says c.in-Ok.x)) ≤ length (zeros longest_explained) = omega (arith, explained-line-short _ _ _ (found)) in
+    let found : explain_for c.args.rate.0 c.args.order.now ≡ figures (explained_says c.in_ok-explained.explained) = sym c.explain_for.ensures ∙ ap explain_says c.in_ok-explained.was in
+    let room : length (explained_line (explained_says c.in_ok-explained.explained)) ≤ length (zeros longest_explained) = omega (arith, explained-line-short _ _ _ (found)) in
     ready_count (zeros longest_explained) _ (room) _ _ c.put_explained-length.ensures
 
 pub returns : goal.returns
 returns c =
-    let found : explain_for c.args.rate.0 c.args.order.now ≡ figures (explained_says c.in-Ok.x) = sym c.explain_for.ensures ∙ ap explain_says c.in-Ok.is in
-    let room : length (explained_line (explained_says c.in-Ok.x)) ≤ length (zeros longest_explained) = omega (arith, explained-line-short _ _ _ (found)) in
+    let found : explain_for c.args.rate.0 c.args.order.now ≡ figures (explained_says c.in_ok-explained.explained) = sym c.explain_for.ensures ∙ ap explain_says c.in_ok-explained.was in
+    let room : length (explained_line (explained_says c.in_ok-explained.explained)) ≤ length (zeros longest_explained) = omega (arith, explained-line-short _ _ _ (found)) in
     let old = c.args.text.now in
     let all = found_fills _ _ old _ (found) _ _
     (ready_fills (zeros longest_explained) _ (room) _ _ c.put_explained-length.ensures old _ _ c.fill.ensures) in

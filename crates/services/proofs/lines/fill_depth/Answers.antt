@@ -3,6 +3,7 @@ use Prim.Native.Nat.{◌≤◌}
 use native.Mathlib.Omega.{arith}
 use mathlib.Core.Path.{ap}
 use lib.ListN.{length}
+use Rattle.std.proofs.lemmas.Result.{err_from_is_err_and}
 use Rattle.depth.specs.Depth.{depth_says}
 use Rattle.encoding.specs.FillLaws.{refused_fills, found_fills}
 use Rattle.text.specs.FittedLaws.{zeros, ready_count, ready_inside, ready_fills}
@@ -11,30 +12,31 @@ use Rattle.text.specs.LineLaws.{depth-short, longest_depth}
 use borrow.Author.Rules.{rules}
 use Rattle.services.proofs.lines.fill_depth.Goals as goal
 
-pub returns-in-Err : goal.returns-in-Err
-returns-in-Err c =
-    let all = refused_fills _ _ _ _ (ap depth_says c.in-Err.is) in
-    record { result_value = all.0; text_after = all.1 }
+pub returns-in_err-depth : goal.returns-in_err-depth
+returns-in_err-depth c =
+    let p = err_from_is_err_and c.from_residual.result c.from_residual.ensures.1 in
+    let all = refused_fills _ _ _ _ (ap depth_says c.in_err-depth.was) in
+    rw (p.1, p.2) (record { result_value = all.0; text_after = all.1 })
 
 pub put_depth-length-requires : goal.put_depth-length-requires
 put_depth-length-requires c =
-    let room : length (depth_line c.in-Ok.x.0) ≤ length (zeros longest_depth) = omega (arith, depth-short c.in-Ok.x.0 (omega (arith, c.in-Ok.known_told-1-own.given))) in
+    let room : length (depth_line c.in_ok-depth.depth.0) ≤ length (zeros longest_depth) = omega (arith, depth-short c.in_ok-depth.depth.0 (omega (arith, c.in_ok-depth.known_told-1-own.given))) in
     omega (arith, room)
 
 pub slice_bounds-ready-end : goal.slice_bounds-ready-end
 slice_bounds-ready-end c =
-    let room : length (depth_line c.in-Ok.x.0) ≤ length (zeros longest_depth) = omega (arith, depth-short c.in-Ok.x.0 (omega (arith, c.in-Ok.known_told-1-own.given))) in
+    let room : length (depth_line c.in_ok-depth.depth.0) ≤ length (zeros longest_depth) = omega (arith, depth-short c.in_ok-depth.depth.0 (omega (arith, c.in_ok-depth.known_told-1-own.given))) in
     ready_inside (zeros longest_depth) _ (room) _ _ c.put_depth-length.ensures
 
 pub slice_bounds-fill-end : goal.slice_bounds-fill-end
 slice_bounds-fill-end c =
-    let room : length (depth_line c.in-Ok.x.0) ≤ length (zeros longest_depth) = omega (arith, depth-short c.in-Ok.x.0 (omega (arith, c.in-Ok.known_told-1-own.given))) in
+    let room : length (depth_line c.in_ok-depth.depth.0) ≤ length (zeros longest_depth) = omega (arith, depth-short c.in_ok-depth.depth.0 (omega (arith, c.in_ok-depth.known_told-1-own.given))) in
     ready_count (zeros longest_depth) _ (room) _ _ c.put_depth-length.ensures
 
 pub returns : goal.returns
 returns c =
-    let room : length (depth_line c.in-Ok.x.0) ≤ length (zeros longest_depth) = omega (arith, depth-short c.in-Ok.x.0 (omega (arith, c.in-Ok.known_told-1-own.given))) in
+    let room : length (depth_line c.in_ok-depth.depth.0) ≤ length (zeros longest_depth) = omega (arith, depth-short c.in_ok-depth.depth.0 (omega (arith, c.in_ok-depth.known_told-1-own.given))) in
     let old = c.args.text.now in
-    let all = found_fills _ _ old _ (ap depth_says c.in-Ok.is) _ _
+    let all = found_fills _ _ old _ (ap depth_says c.in_ok-depth.was) _ _
     (ready_fills (zeros longest_depth) _ (room) _ _ c.put_depth-length.ensures old _ _ c.fill.ensures) in
     record { result_value = all.0; text_after = all.1 }

@@ -3,6 +3,7 @@ use Prim.Native.Nat.{◌≤◌}
 use native.Mathlib.Omega.{arith}
 use mathlib.Core.Path.{◌≡◌, sym, ap, ◌∙◌}
 use lib.ListN.{length}
+use Rattle.std.proofs.lemmas.Result.{err_from_is_err_and}
 use Rattle.terms.specs.Answer.{figures}
 use Rattle.terms.specs.Refusals.{says}
 use Rattle.encoding.specs.FillLaws.{refused_fills, found_fills}
@@ -14,33 +15,34 @@ use Rattle.services.specs.ServiceLaws.{single_line-short}
 use borrow.Author.Rules.{rules}
 use Rattle.services.proofs.lines.single_line.Goals as goal
 
-pub returns-in-Err : goal.returns-in-Err
-returns-in-Err c =
-    let all = refused_fills _ _ _ _ (sym c.single_for.ensures ∙ ap says c.in-Err.is) in
-    record { result_value = all.0; text_after = all.1 }
+pub returns-in_err-priced : goal.returns-in_err-priced
+returns-in_err-priced c =
+    let p = err_from_is_err_and c.from_residual.result c.from_residual.ensures.1 in
+    let all = refused_fills _ _ _ _ (sym c.in_err-priced.ensures) in
+    rw (p.1, p.2) (record { result_value = all.0; text_after = all.1 })
 
 pub put_single_line-length-requires : goal.put_single_line-length-requires
 put_single_line-length-requires c =
-    let found : single_for c.args.order.now ≡ figures c.in-Ok.x = sym c.single_for.ensures ∙ ap says c.in-Ok.is in
-    let room : length (single_line c.in-Ok.x.bucket c.in-Ok.x.cost) ≤ length (zeros longest_single) = omega (arith, single_line-short _ _ (found)) in
+    let found : single_for c.args.order.now ≡ figures c.in_ok-priced.priced = sym c.single_for.ensures ∙ ap says c.in_ok-priced.was in
+    let room : length (single_line c.in_ok-priced.priced.bucket c.in_ok-priced.priced.cost) ≤ length (zeros longest_single) = omega (arith, single_line-short _ _ (found)) in
     omega (arith, room)
 
 pub slice_bounds-ready-end : goal.slice_bounds-ready-end
 slice_bounds-ready-end c =
-    let found : single_for c.args.order.now ≡ figures c.in-Ok.x = sym c.single_for.ensures ∙ ap says c.in-Ok.is in
-    let room : length (single_line c.in-Ok.x.bucket c.in-Ok.x.cost) ≤ length (zeros longest_single) = omega (arith, single_line-short _ _ (found)) in
+    let found : single_for c.args.order.now ≡ figures c.in_ok-priced.priced = sym c.single_for.ensures ∙ ap says c.in_ok-priced.was in
+    let room : length (single_line c.in_ok-priced.priced.bucket c.in_ok-priced.priced.cost) ≤ length (zeros longest_single) = omega (arith, single_line-short _ _ (found)) in
     ready_inside (zeros longest_single) _ (room) _ _ c.put_single_line-length.ensures
 
 pub slice_bounds-fill-end : goal.slice_bounds-fill-end
 slice_bounds-fill-end c =
-    let found : single_for c.args.order.now ≡ figures c.in-Ok.x = sym c.single_for.ensures ∙ ap says c.in-Ok.is in
-    let room : length (single_line c.in-Ok.x.bucket c.in-Ok.x.cost) ≤ length (zeros longest_single) = omega (arith, single_line-short _ _ (found)) in
+    let found : single_for c.args.order.now ≡ figures c.in_ok-priced.priced = sym c.single_for.ensures ∙ ap says c.in_ok-priced.was in
+    let room : length (single_line c.in_ok-priced.priced.bucket c.in_ok-priced.priced.cost) ≤ length (zeros longest_single) = omega (arith, single_line-short _ _ (found)) in
     ready_count (zeros longest_single) _ (room) _ _ c.put_single_line-length.ensures
 
 pub returns : goal.returns
 returns c =
-    let found : single_for c.args.order.now ≡ figures c.in-Ok.x = sym c.single_for.ensures ∙ ap says c.in-Ok.is in
-    let room : length (single_line c.in-Ok.x.bucket c.in-Ok.x.cost) ≤ length (zeros longest_single) = omega (arith, single_line-short _ _ (found)) in
+    let found : single_for c.args.order.now ≡ figures c.in_ok-priced.priced = sym c.single_for.ensures ∙ ap says c.in_ok-priced.was in
+    let room : length (single_line c.in_ok-priced.priced.bucket c.in_ok-priced.priced.cost) ≤ length (zeros longest_single) = omega (arith, single_line-short _ _ (found)) in
     let old = c.args.text.now in
     let all = found_fills _ _ old _ (found) _ _ (ready_fills (zeros longest_single) _ (room) _ _ c.put_single_line-length.ensures old _ _ c.fill.ensures) in
     record { result_value = all.0; text_after = all.1 }

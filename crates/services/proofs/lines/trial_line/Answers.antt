@@ -7,6 +7,7 @@ use lib.Signed.{nat_abs-le}
 use mir.Syntax.{w64}
 use mir.Val.{SFits}
 use mir.Facts.{to_z-of_z}
+use Rattle.std.proofs.lemmas.Result.{err_from_is_err_and}
 use Rattle.terms.specs.Refusals.{says}
 use Rattle.bucket.specs.declared.trials.TrialFigures.{TrialFigures}
 use Rattle.encoding.specs.FillLaws.{refused_fills, found_fills}
@@ -16,38 +17,39 @@ use Rattle.text.specs.LineLaws.{longest_trial, trial_short}
 use borrow.Author.Rules.{rules}
 use Rattle.services.proofs.lines.trial_line.Goals as goal
 
-pub returns-in-Err : goal.returns-in-Err
-returns-in-Err c =
-    let all = refused_fills _ _ _ _ (sym c.trial_for.ensures ∙ ap says c.in-Err.is) in
-    record { result_value = all.0; text_after = all.1 }
+pub returns-in_err-figures : goal.returns-in_err-figures
+returns-in_err-figures c =
+    let p = err_from_is_err_and c.from_residual.result c.from_residual.ensures.1 in
+    let all = refused_fills _ _ _ _ (sym c.in_err-figures.ensures) in
+    rw (p.1, p.2) (record { result_value = all.0; text_after = all.1 })
 
 pub put_trial_line-length-requires : goal.put_trial_line-length-requires
 put_trial_line-length-requires c =
-    let figures-at : TrialFigures = c.in-Ok.x in
+    let figures-at : TrialFigures = c.in_ok-figures.figures in
     let spare-fits : SFits w64 (figures-at).spare = record { sfits = c.struct_told-1.given.0.1 } in
     let room : length (trial_line (figures-at).spare (figures-at).over) ≤ length (zeros longest_trial) = omega (arith, trial_short (figures-at).spare (figures-at).over (nat_abs-le (figures-at).spare c.struct_told-1.given.0.1) c.struct_told-1.given.1.0.1) in
     rw (to_z-of_z {w = w64} (spare-fits)) (omega (arith, room))
 
 pub slice_bounds-ready-end : goal.slice_bounds-ready-end
 slice_bounds-ready-end c =
-    let figures-at : TrialFigures = c.in-Ok.x in
+    let figures-at : TrialFigures = c.in_ok-figures.figures in
     let room : length (trial_line (figures-at).spare (figures-at).over) ≤ length (zeros longest_trial) = omega (arith, trial_short (figures-at).spare (figures-at).over (nat_abs-le (figures-at).spare c.struct_told-1.given.0.1) c.struct_told-1.given.1.0.1) in
     let spare-fits : SFits w64 (figures-at).spare = record { sfits = c.struct_told-1.given.0.1 } in
     ready_inside (zeros longest_trial) _ (room) _ _ (rw (to_z-of_z {w = w64} (spare-fits)) at c.put_trial_line-length.ensures)
 
 pub slice_bounds-fill-end : goal.slice_bounds-fill-end
 slice_bounds-fill-end c =
-    let figures-at : TrialFigures = c.in-Ok.x in
+    let figures-at : TrialFigures = c.in_ok-figures.figures in
     let room : length (trial_line (figures-at).spare (figures-at).over) ≤ length (zeros longest_trial) = omega (arith, trial_short (figures-at).spare (figures-at).over (nat_abs-le (figures-at).spare c.struct_told-1.given.0.1) c.struct_told-1.given.1.0.1) in
     let spare-fits : SFits w64 (figures-at).spare = record { sfits = c.struct_told-1.given.0.1 } in
     ready_count (zeros longest_trial) _ (room) _ _ (rw (to_z-of_z {w = w64} (spare-fits)) at c.put_trial_line-length.ensures)
 
 pub returns : goal.returns
 returns c =
-    let figures-at : TrialFigures = c.in-Ok.x in
+    let figures-at : TrialFigures = c.in_ok-figures.figures in
     let room : length (trial_line (figures-at).spare (figures-at).over) ≤ length (zeros longest_trial) = omega (arith, trial_short (figures-at).spare (figures-at).over (nat_abs-le (figures-at).spare c.struct_told-1.given.0.1) c.struct_told-1.given.1.0.1) in
     let spare-fits : SFits w64 (figures-at).spare = record { sfits = c.struct_told-1.given.0.1 } in
     let old = c.args.text.now in
-    let all = found_fills _ _ old _ (sym c.trial_for.ensures ∙ ap says c.in-Ok.is) _ _
+    let all = found_fills _ _ old _ (sym c.trial_for.ensures ∙ ap says c.in_ok-figures.was) _ _
     (ready_fills (zeros longest_trial) _ (room) _ _ (rw (to_z-of_z {w = w64} (spare-fits)) at c.put_trial_line-length.ensures) old _ _ c.fill.ensures) in
     record { result_value = all.0; text_after = all.1 }

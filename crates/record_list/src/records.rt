@@ -1,0 +1,53 @@
+// The bucket records of a plan: at most as many as the longest trace has periods, in an array with their number.
+ghost use Rattle.std.specs.Prelude.{◌<◌, ◌≤◌, ◌≡◌, [], ◌∷◌, ◌++◌, length};
+ghost use Rattle.terms.specs.Limits.{trace_limit};
+
+use crate::arrays::blank_records;
+use std::marker::Model;
+use terms::limits::TRACE_LIMIT;
+use terms::BucketRecord;
+
+#[derive(Drop)]
+pub struct Records {
+    entries: [BucketRecord; TRACE_LIMIT],
+    count: usize,
+}
+
+// Contracts see the records, first run to last.
+impl Model for Records {
+    ghost use Rattle.std.specs.Prelude.{◌≤◌, take};
+    ghost use Rattle.terms.specs.Limits.{trace_limit};
+    ghost use Rattle.terms.specs.Records.{Cutting};
+
+    ghost Value = { Cutting };
+
+    ghost view = { λ a. take a.count a.entries };
+
+    ghost invariant = { λ a. a.count ≤ trace_limit };
+}
+
+impl Records {
+    // No records.
+    pub fn new() -> Records
+        ensures { result ≡ [] }
+    {
+        let entries = blank_records();
+        Records { entries, count: 0 }
+    }
+
+    // One record more, behind the others.
+    pub fn push(&mut self, x: BucketRecord)
+        requires { length self.old < trace_limit }
+        ensures { self.new ≡ self.old ++ x ∷ [] }
+    {
+        self.entries[self.count] = x;
+        self.count += 1;
+    }
+
+    pub fn as_slice(&self) -> &[BucketRecord]
+        ensures items { result.now ≡ self.now }
+        ensures few { length result.now ≤ trace_limit }
+    {
+        &self.entries[..self.count]
+    }
+}
