@@ -36,7 +36,7 @@ pub fn spread(part: &[u8], demands: &mut [u16]) -> Result<usize, Refusal>
 fn part_in_range(n: usize) -> bool
     ensures { result ≡ part_ok n }
 {
-    (n % 2 == 0) & (2 <= n) & (n <= 2 * TRACE_LIMIT)
+    n % 2 == 0 && 2 <= n && n <= 2 * TRACE_LIMIT
 }
 
 // Stores the demands of the part from the front of the list on.
