@@ -13,7 +13,7 @@ use Rattle.order_file.specs.Order.{trace_part}
 use Rattle.order_file.specs.OrderRules.{spread_rules}
 use Rattle.order_file.specs.OrderedLaws.{ordered-count}
 use Rattle.record_list.specs.HeldLaws.{stored-held}
-use Rattle.plan_file.specs.Plan.{Recorded}
+use Rattle.plan_file.specs.declared.answers.Recorded.{Recorded}
 use Rattle.planning.specs.Planning.{Planned, zeros}
 use Rattle.planning.specs.PlannedLaws.{IsPlanned, is-planned}
 use Rattle.planning.specs.CallLaws.{spread-front, spread-inside}

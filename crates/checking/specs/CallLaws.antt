@@ -13,7 +13,8 @@ use Rattle.order_file.specs.Order.{order_end}
 use Rattle.order_file.specs.Ordered.{Ordered, ordered}
 use Rattle.order_file.specs.OrderedLaws.{is-ordered, ordered-count, ordered_range}
 use Rattle.plan_file.specs.declared.answers.PlanFigures.{PlanFigures}
-use Rattle.plan_file.specs.Plan.{Recorded, buckets_of, figures_in, plan_in, read_plan, recorded_figures}
+use Rattle.plan_file.specs.declared.answers.Recorded.{Recorded}
+use Rattle.plan_file.specs.Plan.{buckets_of, figures_in, plan_in, read_plan, recorded_figures}
 use Rattle.plan_file.specs.PlanRules.{plan-few, read_range, read_whole}
 use Rattle.plan_file.specs.RecordLaws.{RecordsRange}
 use Rattle.checking.specs.Check.{Verdict, verdict_of, compared, check_of, check_in, check_files}

@@ -21,7 +21,7 @@ use Rattle.series.specs.Cutting.{none, run}
 use Rattle.series.specs.declared.answers.Plan.{Plan}
 use Rattle.series.specs.Series.{Carried, plan_of, true_cost_of, series_of}
 use Rattle.series.specs.SeriesLaws.{series-cheapest, series_none, series_refuses}
-use Rattle.plan_file.specs.Plan.{Recorded}
+use Rattle.plan_file.specs.declared.answers.Recorded.{Recorded}
 use Rattle.plan_file.specs.RecordLaws.{RecordsRange}
 use Rattle.checking.specs.Check.{yes, no, run_ok, runs_ok, plan_ok, least_cost, excess_over, verdict_of}
 

@@ -17,7 +17,7 @@ use Rattle.series.specs.Series.{true_cost_of}
 use Rattle.record_list.specs.Held.{no_record}
 use Rattle.record_list.specs.PartLaws.{Begins, first_begins, next_begins, rest, rest_next, rest_none, run_inside}
 use Rattle.plan_file.specs.declared.answers.PlanFigures.{PlanFigures}
-use Rattle.plan_file.specs.Plan.{Recorded}
+use Rattle.plan_file.specs.declared.answers.Recorded.{Recorded}
 use Rattle.plan_file.specs.RecordLaws.{RecordsRange}
 use Rattle.checking.specs.Check.{run_ok, runs_ok}
 

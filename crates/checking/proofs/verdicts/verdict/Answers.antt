@@ -3,7 +3,7 @@ use mathlib.Core.Path.{◌≡◌, refl, ap, ◌∙◌}
 use mathlib.Core.Bool.{true, false}
 use Rattle.terms.specs.Answer.{figures, on_figures}
 use Rattle.terms.specs.Refusals.{says}
-use Rattle.plan_file.specs.Plan.{Recorded}
+use Rattle.plan_file.specs.declared.answers.Recorded.{Recorded}
 use Rattle.checking.specs.Check.{least_cost, plan_ok}
 use Rattle.checking.specs.VerdictLaws.{holds-least, least-planned, verdict-is}
 use Rattle.checking.specs.WeighLaws.{stated_plan}
