@@ -2,7 +2,6 @@
 use Prim.Native.Nat.{ℕ}
 use mathlib.Core.Path.{sym, ap}
 use mathlib.Core.Bool.{Bool, cond}
-use borrow.Author.Rules.{rules}
 use Rattle.order_text.specs.WordLaws.{short-unmarked}
 use Rattle.order_text.proofs.bytes.mark_length.Goals as goal
 
