@@ -31,9 +31,6 @@ then_read_lem (faulty x) next e = absurd (read-faulty (sym e))
 -- ---- One byte
 
 module _ (s : Scan) (b : ℕ) where
-  pub digit_many : figures_limit ≤ length s.figures → with_digit s b ≡ faulty (fault_at Many s)
-  digit_many l = rw (le-leb figures_limit (length s.figures) l)
-
   pub digit_value : (o : Option ℕ) → length s.figures < figures_limit → pushed (limit_of (length s.figures)) s.value b ≡ o → with_digit s b ≡ unless_above s o
   digit_value o l e = rw (lt-leb figures_limit (length s.figures) l) (ap (unless_above s) e)
 
@@ -41,9 +38,6 @@ module _ (s : Scan) where
   -- The figure that is begun leaves a factor.
   abbrev pub Stands : Bool → Type 0
   Stands t = factor_stands (length s.figures) (get_or s.figures 3 0) s.value ≡ t
-
-  pub closed-factor : s.begun ≡ true → Stands false → closed s ≡ faulty (fault_at Factor s)
-  closed-factor h k = rw (h, k)
 
   pub closed_figure : s.begun ≡ true → Stands true → closed s ≡ read (with_figure s)
   closed_figure h k = rw (h, k)
