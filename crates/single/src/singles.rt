@@ -61,8 +61,5 @@ fn cheapest(trace: &[u16], tariff: Tariff) -> Result<Priced, Refusal>
 fn costs_less(a: Result<Priced, Refusal>, floor: Priced) -> bool
     ensures { result ≡ dearer floor (says a) }
 {
-    match a {
-        Ok(x) => x.cost < floor.cost,
-        Err(_) => false,
-    }
+    a.is_ok_and(|x| x.cost < floor.cost)
 }
