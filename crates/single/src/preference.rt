@@ -5,8 +5,8 @@ ghost use Rattle.terms.specs.Refusals.{says};
 ghost use Rattle.single.specs.Preference.{preferred};
 ghost use Rattle.single.specs.Single.{better};
 
-use terms::Refusal;
 use crate::costs::Priced;
+use terms::Refusal;
 
 // Whether x is chosen before y: at less cost, or equal cost and a smaller rate, or both equal and
 // a smaller depth.

@@ -13,6 +13,7 @@ use terms::{Bucket, Depth, Rate, Refusal, Tariff, periods_in_range, tariff_in_ra
 
 // The bucket inside the tariff's caps that carries the trace at least cost, equal costs going to
 // the smaller rate and then the smaller depth; or refusal 3, 5 or 7 (no such bucket).
+#[tactic(auto, unfolding(crate::specs::Single::single_of))]
 pub fn single(trace: &[u16], tariff: Tariff) -> Result<Priced, Refusal>
     ensures { says result ≡ single_of tariff trace.now }
 {

@@ -4,9 +4,7 @@ use Prim.Native.Nat.{ℕ, ◌+◌, ◌≤◌, ◌<◌}
 use native.Mathlib.Omega.{arith}
 use native.Mathlib.Nat.{le_antisymm, le_trans}
 use mathlib.Core.Path.{◌≡◌, refl, sym, ap, ◌∙◌}
-use mathlib.Core.Bool.{true}
 use mathlib.Core.List.{List}
-use borrow.Author.Rules.{rules}
 use borrow.Author.Tests.{le-leb}
 use lib.ListN.{length}
 use Rattle.terms.specs.declared.Tariff.{Tariff}
@@ -15,7 +13,7 @@ use Rattle.terms.specs.RangeRules.{BucketRange, PeriodsRange, TariffRange}
 use Rattle.terms.specs.RangeLaws.{tariff_ok_lem, periods_ok_lem}
 use Rattle.terms.specs.Bools.{both_and}
 use Rattle.terms.specs.Refusals.{says}
-use Rattle.depth.specs.Depth.{tariff_depth, depth_of, depth_says}
+use Rattle.depth.specs.Depth.{tariff_depth, depth_of}
 use Rattle.depth.specs.DepthLaws.{depth_in_range, depth-within}
 use Rattle.single.specs.declared.costs.Priced.{Priced}
 use Rattle.single.specs.Cost.{priced_at}
@@ -71,18 +69,10 @@ with_cost-here-requires c =
           c.loop-next.invariant c.in-Ok.ensures;
     }
 
-pub with_cost-floor-requires : goal.with_cost-floor-requires
-with_cost-floor-requires c =
-    record {
-      tariff_range = c.requires.tariff_range;
-      periods_le_trace_limit = c.requires.periods_range.few;
-      bucket_range = flat _ _ c.requires.periods_range c.requires.tariff_range _ _ c.rates_to_weigh-end.ensures c.loop-next-test.true;
-    }
-
 pub returns-then-costs_less : goal.returns-then-costs_less
 returns-then-costs_less c =
     let below : c.loop-next.next ≤ c.args.tariff.rate_cap.0 =
-        slow _ _ c.requires.periods_range c.requires.tariff_range _ _ c.rates_to_weigh-end.ensures c.loop-next-test.true in
+    slow _ _ c.requires.periods_range c.requires.tariff_range _ _ c.rates_to_weigh-end.ensures c.loop-next-test.true in
     dearer-enough _ _ _ _
     (next _ _ c.requires.periods_range c.requires.tariff_range _ _ c.rates_to_weigh-end.ensures c.loop-next-test.true
     c.loop-next.invariant c.in-Ok.ensures c.with_cost-here.ensures c.better_of-best.ensures)
