@@ -1,14 +1,12 @@
-// The demands of a trace in bytes, 2 each: the trace's part of an order spread into a lent list,
-// and demands stored in lent bytes.
-ghost use Rattle.std.specs.Prelude.{◌+◌, ◌*◌, ◌≤◌, ◌≡◌, length};
+// The demands of a trace in bytes, 2 each: the trace's part of an order spread into a lent list.
+ghost use Rattle.std.specs.Prelude.{◌≤◌, ◌≡◌, length};
 ghost use Rattle.std.proofs.lemmas.List.Edits.{sets};
 ghost use Rattle.terms.specs.Answer.{on_figures};
 ghost use Rattle.terms.specs.Lent.{filled};
 ghost use Rattle.terms.specs.Refusals.{says};
-ghost use Rattle.encoding.specs.Number.{bytes_of, bytes_of_all};
 ghost use Rattle.order_file.specs.Order.{demands_in, part_ok, spread_of};
 
-use encoding::numbers::{number_at, put_number};
+use encoding::numbers::number_at;
 use terms::Refusal;
 use terms::limits::TRACE_LIMIT;
 
@@ -46,17 +44,5 @@ fn load_demands(part: &[u8], demands: &mut [u16])
 {
     for i in 0..part.len() / 2 {
         demands[i] = number_at(part, 2 * i, 2) as u16;
-    }
-}
-
-// Stores the bytes of the demands from `at` on.
-pub(crate) fn put_demands(bytes: &mut [u8], at: usize, trace: &[u16])
-    requires { at + 2 * length trace.now ≤ length bytes.old }
-    ensures { bytes.new ≡ sets bytes.old at (bytes_of_all (bytes_of 2) trace.now) }
-{
-    let mut next = at;
-    for &demand in trace {
-        put_number(bytes, next, 2, demand as u64);
-        next += 2;
     }
 }
