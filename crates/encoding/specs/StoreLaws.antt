@@ -7,8 +7,7 @@ use Rattle.std.specs.Prelude.{◌≡◌, refl, List, [], ◌∷◌, ◌++◌, le
 use Rattle.std.proofs.Math.Path.{ap}
 use Rattle.std.proofs.lemmas.List.Edits.{sets, sets-eq}
 use Rattle.std.proofs.Math.Seq.{length-sets}
-use Rattle.encoding.specs.Number.{bytes_of, bytes_of_all, items_at}
-use Rattle.encoding.specs.NumberLaws.{length-bytes}
+use Rattle.encoding.specs.Number.{bytes_of_all, items_at}
 
 -- One list stored after another.
 pub sets_append : {A : Type 0} (old : List A) (at : ℕ) (xs ys : List A) → sets old at (xs ++ ys) ≡ sets (sets old at xs) (at + length xs) ys

@@ -1,2 +1,2 @@
 -- Lemmas of the proofs.
-pub mod Loading
+pub mod Demands

@@ -13,7 +13,7 @@ use terms::limits::TRACE_LIMIT;
 // Spreads the trace's part into the front of the list and answers how many demands there are; or
 // refusal 3 (a part of an odd length, of none or of more than 1,024 bytes) or 6 (a list with fewer
 // entries than demands), and the list is as it was.
-#[tactic(auto, using(crate::proofs::Loading::spreading), unfolding(crate::specs::Order::spread_of))]
+#[tactic(auto, using(crate::proofs::Demands::spreading), unfolding(crate::specs::Order::spread_of))]
 pub fn spread(part: &[u8], demands: &mut [u16]) -> Result<usize, Refusal>
     ensures result_value { says result ≡ on_figures length (spread_of (length demands.old) part.now) }
     ensures demands_after { demands.new ≡ filled (spread_of (length demands.old) part.now) demands.old }
@@ -38,7 +38,7 @@ fn part_in_range(n: usize) -> bool
 }
 
 // Stores the demands of the part from the front of the list on.
-#[tactic(auto, using(crate::proofs::Loading::loading))]
+#[tactic(auto, using(crate::proofs::Demands::loading))]
 fn load_demands(part: &[u8], demands: &mut [u16])
     requires { length (demands_in part.now) ≤ length demands.old }
     ensures { demands.new ≡ sets demands.old 0 (demands_in part.now) }

@@ -1,5 +1,4 @@
 -- The bytes of the numbers from the one reached on are left to be stored.
-use Rattle.std.proofs.Common.{ap, sym, ◌∙◌}
 use Rattle.encoding.specs.NumberLaws.{length-bytes}
 use Rattle.encoding.specs.StoreLaws.{put_next, put_end}
 use Rattle.encoding.proofs.numbers.put_words.Goals as goal

@@ -1,7 +1,7 @@
 -- The demands loaded are the first of the part.
 use Rattle.std.specs.Prelude.{◌≡◌}
 use Rattle.std.proofs.lemmas.List.Edits.{sets}
-use Rattle.order_file.proofs.Loading.{first}
+use Rattle.order_file.proofs.Demands.{first}
 use Rattle.order_file.proofs.traces.load_demands.Given as goal
 
 abbrev pub invariant-loop-i : goal.invariant-loop-i
