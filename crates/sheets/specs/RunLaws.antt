@@ -10,7 +10,7 @@ use Rattle.terms.specs.Limits.{trace_limit}
 use Rattle.terms.specs.RangeRules.{FactorRange, FreshRange, RecordRange, PeriodsRange}
 use Rattle.terms.specs.Records.{Cutting, Each, run_length, total}
 use Rattle.record_list.specs.Held.{no_record}
-use Rattle.record_list.specs.PartLaws.{Begins, first_begins, next_begins, rest, rest_next, rest_none, run_inside}
+use Rattle.record_list.specs.PartLaws.{Begins, first_begins, next_begins, rest_next, rest_none, run_inside}
 use Rattle.text.specs.PutLaws.{Puts, Room, room-front, room_next, puts_both}
 use Rattle.sheets.specs.Sheet.{run_line, run_lines}
 
@@ -23,55 +23,44 @@ pub record Printable (f : Factor) (ds : List ℕ) (xs : Cutting) : Type 0 where
 
 -- ---- The lines stored run by run
 
-module _ (f : Factor) (ds : List ℕ) (k : ℕ) (records : Cutting) (old : List ℕ) (at : ℕ) where
+module _ (f : Factor) (ds : List ℕ) (records : Cutting) (old : List ℕ) (at : ℕ) where
   abbrev whole : List ℕ
-  whole = run_lines f 1 ds (take k records)
+  whole = run_lines f 1 ds records
 
   -- The lines of i runs are stored, and the next run begins at `start`.
   pub record Printing (new : List ℕ) (next start i : ℕ) : Type 0 where
     pub done : List ℕ
     pub put : Puts old at done new next
-    pub is : done ++ run_lines f (start + 1) (drop start ds) (rest k records i) ≡ whole
-    pub begins : Begins k records ds start i
-    pub each : Each RecordRange (rest k records i)
+    pub is : done ++ run_lines f (start + 1) (drop start ds) (drop i records) ≡ whole
+    pub begins : Begins records ds start i
+    pub each : Each RecordRange (drop i records)
 
-  pub none_printed : Printable f ds (take k records) → Printing old at 0 0
+  pub none_printed : Printable f ds records → Printing old at 0 0
   none_printed p =
       record {
         done = [];
         put = record { place = omega arith; stored = refl };
         is = refl;
-        begins = first_begins k records ds p.sum;
+        begins = first_begins records ds p.sum;
         each = p.each;
       }
 
   module _ {new : List ℕ} {next start i : ℕ} (s : Printing new next start i) where
-    module _ (fits : k ≤ length records) (l : i < k) where
+    module _ (l : i < length records) where
       abbrev this : BucketRecord
       this = get_or records i no_record
 
       abbrev part : List ℕ
       part = take (run_length this) (drop start ds)
 
-      left_is : rest k records i ≡ this ∷ rest k records (i + 1)
-      left_is = rest_next k records fits i l
-
-      -- the next run is inside the trace
-      inside : start + run_length this ≤ length ds
-      inside = run_inside k records ds start i s.begins fits l
-
-      -- … and in its ranges
-      run_range : RecordRange this
-      run_range = (subst (Each RecordRange) left_is s.each).0
-
-      run-count : length part ≡ run_length this
-      run-count = omega (arith, inside, length-take (run_length this) (drop start ds), length-drop start ds)
+      left_is : drop i records ≡ this ∷ drop (i + 1) records
+      left_is = rest_next records i l
 
       abbrev line : List ℕ
       line = run_line f (start + 1) this.bucket part
 
       abbrev after : List ℕ
-      after = run_lines f (start + 1 + run_length this) (drop (run_length this) (drop start ds)) (rest k records (i + 1))
+      after = run_lines f (start + 1 + run_length this) (drop (run_length this) (drop start ds)) (drop (i + 1) records)
 
       next_is : s.done ++ line ++ after ≡ whole
       unfolding run_lines
@@ -90,31 +79,23 @@ module _ (f : Factor) (ds : List ℕ) (k : ℕ) (records : Cutting) (old : List 
             done = s.done ++ line;
             put = puts_both s.put line new' next' q;
             is =
-                ap (λ (n : ℕ). s.done ++ line ++ run_lines f n (drop (start + run_length this) ds) (rest k records (i + 1))) e
-                ∙ ap (λ (ys : List ℕ). s.done ++ line ++ run_lines f (start + 1 + run_length this) ys (rest k records (i + 1))) (sym (drop-drop (run_length this) start ds))
+                ap (λ (n : ℕ). s.done ++ line ++ run_lines f n (drop (start + run_length this) ds) (drop (i + 1) records)) e
+                ∙ ap (λ (ys : List ℕ). s.done ++ line ++ run_lines f (start + 1 + run_length this) ys (drop (i + 1) records)) (sym (drop-drop (run_length this) start ds))
                 ∙ next_is;
-            begins = next_begins k records ds start i s.begins fits l;
+            begins = next_begins records ds start i s.begins l;
             each = (subst (Each RecordRange) left_is s.each).1;
           }
 
       -- the run's own part of the trace
       module _ (ys : List ℕ) (e : ys ≡ part) where
-        pub run_ready : Printable f ds (take k records) → Room old at whole
-            → FreshRange this.bucket f × (PeriodsRange (length ys) × ((start + 1 ≤ trace_limit) × Room new next (run_line f (start + 1) this.bucket ys)))
-        run_ready p r =
-            let n : length ys ≡ run_length this = ap length e ∙ run-count in (
-              record { bucket = run_range.bucket; factor = p.factor },
-              (
-                record { some = omega (arith, n, run_range.some); few = omega (arith, n, inside, p.few) },
-                (omega (arith, inside, run_range.some, p.few), subst (λ (zs : List ℕ). Room new next (run_line f (start + 1) this.bucket zs)) (sym e) (line-room r)),
-              ),
-            )
+        pub run_room : Room old at whole → Room new next (run_line f (start + 1) this.bucket ys)
+        run_room r = subst (λ (zs : List ℕ). Room new next (run_line f (start + 1) this.bucket zs)) (sym e) (line-room r)
 
         pub one_printed : (new' : List ℕ) (next' : ℕ) → Puts new next (run_line f (start + 1) this.bucket ys) new' next' → Printing new' next' (start + run_length this) (i + 1)
         one_printed new' next' q = line_printed new' next' (subst (λ (zs : List ℕ). Puts new next (run_line f (start + 1) this.bucket zs) new' next') e q)
 
-    pub all_printed : k ≤ i → Puts old at whole new next
+    pub all_printed : length records ≤ i → Puts old at whole new next
     unfolding run_lines
     all_printed l =
         subst (λ (zs : List ℕ). Puts old at zs new next)
-        (sym (append-nil s.done) ∙ ap (λ (ys : Cutting). s.done ++ run_lines f (start + 1) (drop start ds) ys) (sym (rest_none k records i l)) ∙ s.is) s.put
+        (sym (append-nil s.done) ∙ ap (λ (ys : Cutting). s.done ++ run_lines f (start + 1) (drop start ds) ys) (sym (rest_none records i l)) ∙ s.is) s.put

@@ -1,5 +1,5 @@
-// The sheet of a plan, from the arrays that hold its demands and records. Public only for this crate's
-// calls, which show what is required.
+// The sheet of a plan found for an order. Public only for this crate's calls, which show what is
+// required.
 ghost use Rattle.std.specs.Prelude.{◌≡◌, length};
 ghost use Rattle.text.specs.PutLaws.{Puts};
 ghost use Rattle.sheets.specs.LengthLaws.{longest_sheet};
@@ -7,7 +7,6 @@ ghost use Rattle.sheets.specs.SheetLaws.{Shown, shown_text};
 
 use crate::runs::put_runs;
 use planning::planned_orders::PlannedOrder;
-use terms::BucketRecord;
 use terms::limits::TRACE_LIMIT;
 use text::lines::put_plan_line;
 
@@ -21,20 +20,15 @@ pub const LONGEST_BUCKET_LINE: usize = 32;
 pub const LONGEST_SHEET: usize = LONGEST_FIRST_LINE + LONGEST_BUCKET_LINE * TRACE_LIMIT;
 
 // Stores a plan's sheet at the front of a text.
-pub fn put_sheet(
-    text: &mut [u8],
-    found: PlannedOrder,
-    demands: &[u16],
-    records: [BucketRecord; TRACE_LIMIT],
-) -> usize
-    requires shown { Shown found demands.now records }
+pub fn put_sheet(text: &mut [u8], planned: &PlannedOrder) -> usize
+    requires shown { Shown planned.now }
     requires text_len { length text.old ≡ longest_sheet }
-    ensures { Puts text.old 0 (shown_text found demands.now records) text.new result }
+    ensures { Puts text.old 0 (shown_text planned.now) text.new result }
 {
-    let order = found.order;
-    let plan = found.plan;
-    let factor = order.tariff.factor;
+    let order = planned.order.order();
+    let plan = planned.plan;
     let lines = put_plan_line(text, 0, order.periods, plan.buckets, plan.cost);
-    let trace = &demands[..order.periods as usize];
-    put_runs(text, lines, factor, trace, plan.buckets as usize, records)
+    let trace = planned.order.trace();
+    let records = planned.records.as_slice();
+    put_runs(text, lines, order.tariff.factor, trace, records)
 }

@@ -20,6 +20,6 @@ pub fn sheet(order: &[u8], text: &mut [u8]) -> Result<usize, Refusal>
 {
     let planned = plan_order(order, TRACE_LIMIT, TRACE_LIMIT)?;
     let mut ready = [0u8; LONGEST_SHEET];
-    let length = put_sheet(&mut ready, planned.found, &planned.demands, planned.records);
+    let length = put_sheet(&mut ready, &planned);
     fill(&ready[..length], text)
 }

@@ -1,7 +1,6 @@
 // The lines of a plan's runs, stored in a text. Public only for this crate's calls, which show what is
 // required.
-ghost use Rattle.std.specs.Prelude.{◌+◌, ◌≤◌, ◌≡◌, length, take};
-ghost use Rattle.terms.specs.Limits.{trace_limit};
+ghost use Rattle.std.specs.Prelude.{◌+◌, ◌≤◌, ◌≡◌, length};
 ghost use Rattle.terms.specs.RangeRules.{FreshRange, PeriodsRange};
 ghost use Rattle.bucket.specs.Trial.{trial_figures};
 ghost use Rattle.text.specs.PutLaws.{Puts};
@@ -9,7 +8,6 @@ ghost use Rattle.sheets.specs.Sheet.{run_line, run_lines};
 ghost use Rattle.sheets.specs.RunLaws.{Printable};
 
 use bucket::trial;
-use terms::limits::TRACE_LIMIT;
 use terms::{Bucket, BucketRecord, Factor};
 use text::lines::put_bucket_line;
 
@@ -19,10 +17,7 @@ fn spare_of(bucket: Bucket, factor: Factor, run: &[u16]) -> i64
     requires periods_range { PeriodsRange (length run.now) }
     ensures { result ≡ (trial_figures bucket factor run.now).spare }
 {
-    match trial(bucket, factor, run) {
-        Ok(figures) => figures.spare,
-        Err(_) => 0,
-    }
+    trial(bucket, factor, run).map_or(0, |figures| figures.spare)
 }
 
 // Stores the line of a run that begins at period `first`.
@@ -45,30 +40,25 @@ fn put_run(
     put_bucket_line(text, at, first, last, bucket, spare)
 }
 
-// Stores the lines of the runs of the first records.
+// Stores the lines of a plan's runs.
 pub fn put_runs(
     text: &mut [u8],
     at: usize,
     factor: Factor,
     trace: &[u16],
-    buckets: usize,
-    records: [BucketRecord; TRACE_LIMIT],
+    records: &[BucketRecord],
 ) -> usize
-    requires buckets_le_trace_limit { buckets ≤ trace_limit }
-    requires printable { Printable factor trace.now (take buckets records) }
-    requires records_in_bounds { at + length (run_lines factor 1 trace.now (take buckets records)) ≤ length text.old }
-    ensures { Puts text.old at (run_lines factor 1 trace.now (take buckets records)) text.new result }
+    requires printable { Printable factor trace.now records.now }
+    requires records_in_bounds { at + length (run_lines factor 1 trace.now records.now) ≤ length text.old }
+    ensures { Puts text.old at (run_lines factor 1 trace.now records.now) text.new result }
 {
     let mut next = at;
     let mut start = 0;
-    let mut i = 0;
-    while i < buckets {
-        let record = records[i];
-        let end = start + record.periods as usize;
+    for &x in records {
+        let end = start + x.periods as usize;
         let first = start as u32 + 1;
-        next = put_run(text, next, factor, first, record.bucket, &trace[start..end]);
+        next = put_run(text, next, factor, first, x.bucket, &trace[start..end]);
         start = end;
-        i += 1;
     }
     next
 }

@@ -18,24 +18,6 @@ use Rattle.record_list.specs.PartLaws.{part-is, run_inside}
 use Rattle.recording.specs.MeteringLaws.{none_metered, one_metered, all_metered, run-refused}
 use Rattle.recording.proofs.metering.meter_runs.Goals as goal
 
-pub loop-x-init : goal.loop-x-init
-loop-x-init c = none_metered _ _ _ c.requires.runs_sum
-
-pub overflow_cast-end : goal.overflow_cast-end
-overflow_cast-end c =
-    let inside : let s = c.args in c.loop-x.start + (get_or s.records.now c.loop-x.x-index no_record).periods ≤ length s.trace.now = let l = c.loop-x in run_inside c.args.records.now c.args.trace.now l.start l.x-index l.invariant.begins c.loop-x-test.true in
-    omega (arith, inside, c.requires.counts_range.periods.few)
-
-pub overflow_add-end : goal.overflow_add-end
-overflow_add-end c =
-    let inside : let s = c.args in c.loop-x.start + (get_or s.records.now c.loop-x.x-index no_record).periods ≤ length s.trace.now = let l = c.loop-x in run_inside c.args.records.now c.args.trace.now l.start l.x-index l.invariant.begins c.loop-x-test.true in
-    omega (arith, inside, c.requires.counts_range.periods.few)
-
-pub offset_bounds-trace-start : goal.offset_bounds-trace-start
-offset_bounds-trace-start c =
-    let inside : let s = c.args in c.loop-x.start + (get_or s.records.now c.loop-x.x-index no_record).periods ≤ length s.trace.now = let l = c.loop-x in run_inside c.args.records.now c.args.trace.now l.start l.x-index l.invariant.begins c.loop-x-test.true in
-    omega (arith, inside, c.requires.counts_range.periods.few)
-
 pub slice_bounds-meter_run-end : goal.slice_bounds-meter_run-end
 slice_bounds-meter_run-end c =
     let inside : let s = c.args in c.loop-x.start + (get_or s.records.now c.loop-x.x-index no_record).periods ≤ length s.trace.now = let l = c.loop-x in run_inside c.args.records.now c.args.trace.now l.start l.x-index l.invariant.begins c.loop-x-test.true in

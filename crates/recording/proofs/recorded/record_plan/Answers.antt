@@ -32,13 +32,3 @@ returns-in_err-meters c =
     let room = le-leb _ _ c.if-space-plan.false in
     let demands : Demands a.trace.now = record { each = λ i. omega (arith, c.type_inv.trace i) } in
     absurd (meters_taken a.plan a.factor a.trace.now a.records.now a.bytes.now a.space opens room _ w.bytes_after _ w.result_value _ c.in_ok-back.ensures.result_value c.requires demands _ (rw c.as_slice.ensures.items at c.in_err-meters.ensures))
-
-pub returns : goal.returns
-returns c =
-    let a = c.args in
-    let w = c.in_ok-length.ensures in
-    let opens = sym c.factor_in_range.ensures ∙ c.if-not-factor_in_range.false in
-    let room = le-leb _ _ c.if-space-plan.false in
-    let demands : Demands a.trace.now = record { each = λ i. omega (arith, c.type_inv.trace i) } in
-    rw c.figures.ensures
-    (plan-metered a.plan a.factor a.trace.now a.records.now a.bytes.now a.space opens room _ w.bytes_after _ w.result_value _ c.in_ok-back.ensures.result_value c.requires demands _ (rw c.as_slice.ensures.items at c.in_ok-meters.ensures))
