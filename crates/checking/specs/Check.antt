@@ -12,7 +12,8 @@ use Rattle.bucket.specs.Trace.{carries}
 use Rattle.series.specs.Series.{true_cost_of, series_of}
 use Rattle.order_file.specs.Order.{order_end}
 use Rattle.order_file.specs.Ordered.{Ordered, ordered}
-use Rattle.plan_file.specs.Plan.{Recorded, plan_in}
+use Rattle.plan_file.specs.declared.answers.Recorded.{Recorded}
+use Rattle.plan_file.specs.Plan.{plan_in}
 use Rattle.text.specs.Lines.{yes_line, no_line}
 use Rattle.text.specs.Fitted.{fitted}
 use Rattle.checking.specs.declared.verdicts.Verdict.{Verdict as Said}

@@ -15,7 +15,8 @@ use Rattle.order_file.specs.Ordered.{Ordered, ordered}
 use Rattle.order_file.specs.OrderLaws.{first_file, second-file}
 use Rattle.order_file.specs.OrderRules.{read_rules}
 use Rattle.order_file.specs.OrderedLaws.{IsOrdered, is-ordered, ordered_as, ordered-count, ordered_range}
-use Rattle.plan_file.specs.Plan.{Recorded, plan_in}
+use Rattle.plan_file.specs.declared.answers.Recorded.{Recorded}
+use Rattle.plan_file.specs.Plan.{plan_in}
 use Rattle.plan_file.specs.PlanRules.{read_range}
 use Rattle.plan_file.specs.RecordLaws.{RecordsRange}
 use Rattle.booking.specs.BookingLaws.{order-spread}

@@ -12,7 +12,8 @@ use Rattle.encoding.specs.NumberLaws.{number_front}
 use Rattle.order_file.specs.Order.{tariff_offset, order_length, order_end, read_order}
 use Rattle.order_file.specs.OrderLaws.{long_more as long_order}
 use Rattle.order_file.specs.Ordered.{ordered}
-use Rattle.plan_file.specs.Plan.{Recorded, longest_plan, plan_in}
+use Rattle.plan_file.specs.declared.answers.Recorded.{Recorded}
+use Rattle.plan_file.specs.Plan.{longest_plan, plan_in}
 use Rattle.plan_file.specs.PlanLaws.{long_more as long_plan}
 use Rattle.text.specs.Fitted.{fitted}
 use Rattle.checking.specs.Check.{Verdict, verdict_line, compared, check_of, check_in, check_files}

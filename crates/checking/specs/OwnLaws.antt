@@ -9,7 +9,8 @@ use Rattle.terms.specs.LentLaws.{filled-front}
 use Rattle.series.specs.Series.{true_cost_of}
 use Rattle.order_file.specs.declared.orders.Order.{Order}
 use Rattle.order_file.specs.OrderedLaws.{ordered_as}
-use Rattle.plan_file.specs.Plan.{Recorded, plan_in}
+use Rattle.plan_file.specs.declared.answers.Recorded.{Recorded}
+use Rattle.plan_file.specs.Plan.{plan_in}
 use Rattle.plan_file.specs.PlanRules.{read-holds}
 use Rattle.planning.specs.Planning.{Planned}
 use Rattle.planning.specs.PlannedLaws.{IsPlanned, is-planned}
