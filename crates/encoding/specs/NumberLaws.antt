@@ -95,6 +95,17 @@ unfolding items_at
 length_items read width zero at = refl
 length_items read width (suc n) at = ap suc (length_items read width n (at + width))
 
+-- One item more, behind the others.
+pub items_more : {A : Type 0} (read : ℕ → A) (width n at : ℕ) → items_at read width (n + 1) at ≡ items_at read width n at ++ read (at + width * n) ∷ []
+unfolding items_at
+items_more {A} read width n at = ap (λ (m : ℕ). items_at read width m at) (add-one n) ∙ go n at
+  where
+    go : (n at : ℕ) → items_at read width (suc n) at ≡ items_at read width n at ++ read (at + width * n) ∷ []
+    go zero at = let e : at ≡ at + width * 0 = omega (arith, mul-zero width) in ap (λ (m : ℕ). read m ∷ []) e
+    go (suc n) at =
+        let e : at + width + width * n ≡ at + width * suc n = omega (arith, mul-suc width n) in
+        ap {B = List A} (λ xs. read at ∷ xs) (go n (at + width) ∙ ap (λ (m : ℕ). items_at read width n (at + width) ++ read m ∷ []) e)
+
 module _ {A : Type 0} (bytes : A → List ℕ) (width : ℕ) where
   module _ (each : (x : A) → length (bytes x) ≡ width) where
     pub length_all : (xs : List A) → length (bytes_of_all bytes xs) ≡ width * length xs

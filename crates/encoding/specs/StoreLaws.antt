@@ -7,8 +7,7 @@ use Rattle.std.specs.Prelude.{◌≡◌, refl, List, [], ◌∷◌, ◌++◌, le
 use Rattle.std.proofs.Math.Path.{ap}
 use Rattle.std.proofs.lemmas.List.Edits.{sets, sets-eq}
 use Rattle.std.proofs.Math.Seq.{length-sets}
-use Rattle.encoding.specs.Number.{bytes_of, bytes_of_all, items_at}
-use Rattle.encoding.specs.NumberLaws.{length-bytes}
+use Rattle.encoding.specs.Number.{bytes_of_all, items_at}
 
 -- One list stored after another.
 pub sets_append : {A : Type 0} (old : List A) (at : ℕ) (xs ys : List A) → sets old at (xs ++ ys) ≡ sets (sets old at xs) (at + length xs) ys
@@ -101,31 +100,35 @@ module _ {xs old new : List ℕ} {i : ℕ} (s : Storing old 0 xs new i (drop i x
   pub copied_front : length xs ≤ length old → length xs ≤ i → new ≡ xs ++ drop (length xs) old
   copied_front h l = copied_all l ∙ sets_front xs old h
 
--- ---- Numbers of w bytes stored one by one
+-- ---- Items of w bytes stored one by one
 
--- The numbers `ns` are being stored in `old`, which has room for them, from `at` on: those from the i-th on are left.
-pub record Putting (w : ℕ) (old : List ℕ) (at : ℕ) (ns new : List ℕ) (next i : ℕ) : Type 0 where
-  pub room : at + w * length ns ≤ length old
+-- The items xs are being stored in `old`, which has room for them, from `at` on: those from the i-th on are left.
+pub record Putting {A : Type 0} (bytes : A → List ℕ) (w : ℕ) (old : List ℕ) (at : ℕ) (xs : List A) (new : List ℕ) (next i : ℕ) : Type 0 where
+  pub room : at + w * length xs ≤ length old
   pub place : next ≡ at + w * i
-  pub stored : Storing old at (bytes_of_all (bytes_of w) ns) new next (bytes_of_all (bytes_of w) (drop i ns))
+  pub stored : Storing old at (bytes_of_all bytes xs) new next (bytes_of_all bytes (drop i xs))
 
-pub put_begin : (w : ℕ) (old : List ℕ) (at : ℕ) (ns : List ℕ) → at + w * length ns ≤ length old → Putting w old at ns old at 0
-put_begin w old at ns h = record { room = h; place = omega (arith, mul-zero w); stored = none_stored old at (bytes_of_all (bytes_of w) ns) }
+module _ {A : Type 0} (bytes : A → List ℕ) (w : ℕ) (old : List ℕ) (at : ℕ) (xs : List A) where
+  pub put_begin : at + w * length xs ≤ length old → Putting bytes w old at xs old at 0
+  put_begin h = record { room = h; place = omega (arith, mul-zero w); stored = none_stored old at (bytes_of_all bytes xs) }
 
-module _ {w : ℕ} {old : List ℕ} {at : ℕ} {ns new : List ℕ} {next i : ℕ} (p : Putting w old at ns new next i) where
-  pub put-inside : i < length ns → next + w ≤ length new
-  put-inside h =
-      let e = mul-suc w i in
-      let l : w * suc i ≤ w * length ns = mul-le-mul (le_refl w) h in
-      omega (arith, p.room, p.place, p.stored.same)
+  module _ {new : List ℕ} {next i : ℕ} (p : Putting bytes w old at xs new next i) where
+    pub put_inside : i < length xs → next + w ≤ length new
+    put_inside h =
+        let e = mul-suc w i in
+        let l : w * suc i ≤ w * length xs = mul-le-mul (le_refl w) h in
+        omega (arith, p.room, p.place, p.stored.same)
 
-  pub put_next : i < length ns → (new' : List ℕ) → new' ≡ sets new next (bytes_of w (get_or ns i 0)) → Putting w old at ns new' (next + w) (i + 1)
-  put_next h new' e =
-      record {
-        room = p.room;
-        place = omega (arith, p.place, mul-suc w i, ap (λ (n : ℕ). w * n) (add-one i));
-        stored = some_stored p.stored (bytes_of w (get_or ns i 0)) _ new' w (length-bytes w _) (bytes_next (bytes_of w) ns i 0 h) e;
-      }
+    -- the next item, x; d stands past the end
+    pub put_next : (d x : A) → i < length xs → x ≡ get_or xs i d → length (bytes x) ≡ w
+        → (new' : List ℕ) → new' ≡ sets new next (bytes x) → Putting bytes w old at xs new' (next + w) (i + 1)
+    put_next d x h is each new' e =
+        let left = bytes_next bytes xs i d h ∙ ap (λ (y : A). bytes y ++ bytes_of_all bytes (drop (i + 1) xs)) (sym is) in
+        record {
+          room = p.room;
+          place = omega (arith, p.place, mul-suc w i, ap (λ (n : ℕ). w * n) (add-one i));
+          stored = some_stored p.stored (bytes x) _ new' w each left e;
+        }
 
-  pub put_end : length ns ≤ i → new ≡ sets old at (bytes_of_all (bytes_of w) ns)
-  put_end h = all_stored p.stored (bytes_none (bytes_of w) ns i h)
+    pub put_end : length xs ≤ i → new ≡ sets old at (bytes_of_all bytes xs)
+    put_end h = all_stored p.stored (bytes_none bytes xs i h)

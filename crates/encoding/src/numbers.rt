@@ -1,6 +1,6 @@
 // Little-endian numbers of 1 to 8 bytes. Public only for the crates above, which show what is
 // required.
-ghost use Rattle.std.specs.Prelude.{◌+◌, ◌*◌, ◌^◌, ◌≤◌, ◌<◌, ◌≡◌, length};
+ghost use Rattle.std.specs.Prelude.{◌+◌, ◌*◌, ◌^◌, ◌≤◌, ◌<◌, ◌≡◌, ℕ, length};
 ghost use Rattle.std.proofs.lemmas.List.Edits.{sets};
 ghost use Rattle.encoding.specs.Number.{bytes_of, bytes_of_all, number_at};
 
@@ -38,14 +38,50 @@ pub fn put_number(bytes: &mut [u8], at: usize, width: usize, value: u64)
     }
 }
 
-// Stores the 4 bytes of each number of a list from `at` on.
-pub fn put_words(bytes: &mut [u8], at: usize, words: &[u32])
-    requires { at + 4 * length words.now ≤ length bytes.old }
-    ensures { bytes.new ≡ sets bytes.old at (bytes_of_all (bytes_of 4) words.now) }
+// A number that the files hold, in as many bytes as its type has.
+pub trait Word: Copy {
+    ghost number: { Self → ℕ };
+
+    ghost SIZE: { ℕ };
+
+    const SIZE: usize;
+
+    fn to_u64(self) -> u64
+        ensures { result ≡ number self };
+}
+
+impl Word for u16 {
+    ghost number = { λ n. n };
+
+    ghost SIZE = { 2 };
+
+    const SIZE: usize = 2;
+
+    fn to_u64(self) -> u64 {
+        self as u64
+    }
+}
+
+impl Word for u32 {
+    ghost number = { λ n. n };
+
+    ghost SIZE = { 4 };
+
+    const SIZE: usize = 4;
+
+    fn to_u64(self) -> u64 {
+        self as u64
+    }
+}
+
+// Stores the bytes of each number of a list from `at` on.
+pub fn put_words<T: Word>(bytes: &mut [u8], at: usize, words: &[T])
+    requires { at + T.SIZE * length words.now ≤ length bytes.old }
+    ensures { bytes.new ≡ sets bytes.old at (bytes_of_all (λ n. bytes_of T.SIZE (T.number n)) words.now) }
 {
     let mut next = at;
     for &word in words {
-        put_number(bytes, next, 4, word as u64);
-        next += 4;
+        put_number(bytes, next, T::SIZE, word.to_u64());
+        next += T::SIZE;
     }
 }

@@ -8,7 +8,6 @@ ghost use Rattle.terms.specs.Refusals.{says};
 ghost use Rattle.encoding.specs.Number.{bytes_of, bytes_of_all};
 ghost use Rattle.order_file.specs.Order.{order_words, read_order, tariff_in, trace_part, VeryOrder, write_order};
 
-use crate::traces::put_demands;
 use encoding::headers::placed;
 use encoding::numbers::{put_words, word_at};
 use terms::limits::TRACE_LIMIT;
@@ -107,7 +106,7 @@ pub fn write_order(tariff: Tariff, trace: &[u16], bytes: &mut [u8]) -> Result<us
         return Err(Refusal::List);
     }
     put_header(bytes, periods as u32, tariff);
-    put_demands(bytes, TRACE_OFFSET, trace);
+    put_words(bytes, TRACE_OFFSET, trace);
     Ok(length)
 }
 

@@ -2,7 +2,7 @@
 -- Assumes nothing.
 use Rattle.std.specs.Prelude.{ℕ, ◌≤◌, ◌≡◌, refl, List, leb, length}
 use Rattle.std.proofs.Common.{sym, ap, subst, leb-true, le-leb}
-use Rattle.terms.specs.Answer.{Answer, figures}
+use Rattle.terms.specs.Answer.{figures}
 use Rattle.terms.specs.AnswerLaws.{same-figures, then_found, weigh-figures}
 use Rattle.terms.specs.Limits.{trace_limit}
 use Rattle.terms.specs.Records.{Cutting}

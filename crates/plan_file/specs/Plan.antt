@@ -3,7 +3,6 @@
 use Rattle.std.specs.Prelude.{ℕ, ◌+◌, ◌*◌, ◌≡◌, Bool, true, ◌&&◌, List, [], ◌∷◌, ◌++◌, leb, eqb, length, take}
 use Rattle.terms.specs.declared.BucketRecord.{BucketRecord}
 use Rattle.terms.specs.Answer.{Answer, figures, refused, weigh, on_figures, and_then}
-use Rattle.terms.specs.Refusals.{number_of}
 use Rattle.terms.specs.Limits.{cost_limit, trace_limit}
 use Rattle.terms.specs.Ranges.{periods_ok, record_ok}
 use Rattle.terms.specs.Records.{Cutting, record_of, run_length, run_rate, run_depth, total}

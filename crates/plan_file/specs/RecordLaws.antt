@@ -1,11 +1,8 @@
 -- Bucket records in their ranges, and weighed one by one.
 -- Assumes nothing.
-use Rattle.std.specs.Prelude.{ℕ, zero, suc, ◌+◌, ◌*◌, ◌≤◌, ◌<◌, ◌≡◌, refl, Bool, true, ◌&&◌, [], ◌∷◌, length, get_or}
-use Rattle.std.proofs.Common.{arith, add-zero, zero-add, ◌∙◌, eqb-true, eq-eqb}
-use Rattle.std.proofs.Math.Path.{sym, ap, ap₂}
-use Rattle.std.proofs.Math.Bool.{and-true, and_assoc}
+use Rattle.std.specs.Prelude.{ℕ, zero, suc, ◌<◌, ◌≡◌, refl, true, [], ◌∷◌, length, get_or}
+use Rattle.std.proofs.Common.{arith, eqb-true, eq-eqb}
 use Rattle.std.proofs.Math.Dec.{eqb}
-use Rattle.terms.specs.declared.BucketRecord.{BucketRecord}
 use Rattle.terms.specs.Bools.{and_both, both_and}
 use Rattle.terms.specs.Ranges.{record_ok}
 use Rattle.terms.specs.RangeRules.{RecordRange}

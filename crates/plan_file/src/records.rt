@@ -51,6 +51,7 @@ pub fn records_in_range(periods: u32, records: &[BucketRecord]) -> bool
 }
 
 // The records of a file.
+#[tactic(auto, using(crate::proofs::Loading::loading))]
 pub fn load_records(bytes: &[u8], buckets: usize) -> Records
     requires buckets_in_bounds { plan_length buckets ≤ length bytes.now }
     requires buckets_le_trace_limit { buckets ≤ trace_limit }

@@ -19,6 +19,6 @@ returns c =
     let n = length-order T a.tariff a.trace.now in
     let written : write_order (length a.bytes.now) a.tariff a.trace.now ≡ figures (order_bytes T a.tariff a.trace.now) = search rules in
     let stored = sets_both a.bytes.now (bytes_of_all (bytes_of 4) (order_words T a.tariff)) (bytes_of_all (bytes_of 2) a.trace.now) _ _ trace_offset
-    (length-header T a.tariff) c.put_header.ensures c.put_demands.ensures in
+    (length-header T a.tariff) c.put_header.ensures c.put_words.ensures in
     let all = fill_stored _ a.bytes.now _ _ _ written (sym n) (omega (arith, c.if-bytes-length.false, n)) stored in
     record { result_value = all.0; bytes_after = all.1 }
