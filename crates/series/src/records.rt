@@ -22,6 +22,7 @@ pub fn record_runs(trace: &[u16], tariff: Tariff, firsts: &[u32]) -> [BucketReco
     let mut records = blank_records();
     let mut start = 0;
     let mut k = 0;
+    // where the next run starts is known only once this one is, so no range or slice gives the turns
     while start < trace.len() {
         let periods = firsts[start];
         let end = start + periods as usize;
