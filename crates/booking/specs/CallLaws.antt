@@ -71,6 +71,10 @@ pub record Called (bs : List ℕ) (z : Sizes) (bytes bytes' : List ℕ) (r : Ans
   pub answers : r ≡ on_figures booked_records (booked_in z bs)
   pub writes : bytes' ≡ filled (on_figures (λ s. s.recording.file) (booked_in z bs)) bytes
 
+-- The figures of the plan found for an order.
+abbrev pub figures_for : PlannedOrder → PlanFigures
+figures_for y = record { periods = y.order.order.periods; buckets = y.plan.buckets; cost = y.plan.cost }
+
 module _ (bs : List ℕ) (entries room : ℕ) (bytes : List ℕ) (space : ℕ) where
   abbrev z : Sizes
   z = sizes entries room (length bytes) space
@@ -94,9 +98,6 @@ module _ (bs : List ℕ) (entries room : ℕ) (bytes : List ℕ) (space : ℕ) w
     pub demands-are : length p.order.demands ≡ p.order.order.periods
     demands-are = ordered-count is.as_ordered
 
-    abbrev figures_for : PlannedOrder → PlanFigures
-    figures_for y = record { periods = y.order.order.periods; buckets = y.plan.buckets; cost = y.plan.cost }
-
     figures-are : figures_for p ≡ plan_figures x
     figures-are = ap figures_for (sym (plan_order_lem bs entries room p k))
 
@@ -106,7 +107,7 @@ module _ (bs : List ℕ) (entries room : ℕ) (bytes : List ℕ) (space : ℕ) w
         let t = p.order.order.tariff in
         omega (arith, carried-count t (planned-cheapest is).carried, series-room t p.order.demands room p.records is.series)
 
-    file-is : write_plan (length bytes) (figures_for p) p.records ≡ file_in z x
+    pub file-is : write_plan (length bytes) (figures_for p) p.records ≡ file_in z x
     file-is =
         ap (λ (y : PlanFigures). write_plan (length bytes) y p.records) figures-are
         ∙ ap (plan_file (length p.records) (length bytes) (plan_figures x)) (take-length p.records)

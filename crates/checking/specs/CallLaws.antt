@@ -1,78 +1,66 @@
 -- The check call by call: what was read of the two files, and what the rest then gives.
 -- Assumes nothing.
 use Rattle.std.specs.Prelude.{ℕ, ◌-◌, ◌≤◌, ◌≡◌, Bool, List, length, take, drop}
-use Rattle.std.proofs.Common.{arith, sym, ap, ap₂, subst, ◌∙◌, eq-eqb, ne_eqb, length-drop, take_all}
+use Rattle.std.proofs.Common.{arith, sym, ap, subst, ◌∙◌, eq-eqb, ne_eqb, length-drop, take_all}
 use Rattle.terms.specs.Answer.{Answer, figures, refused, and_then, weigh}
-use Rattle.terms.specs.AnswerLaws.{on_figures_lem, on_refused, then_figures, then_refused}
+use Rattle.terms.specs.AnswerLaws.{then_figures, then_refused}
 use Rattle.terms.specs.Limits.{trace_limit}
-use Rattle.terms.specs.Records.{Cutting}
-use Rattle.record_list.specs.Held.{held}
-use Rattle.record_list.specs.HeldLaws.{held-records}
 use Rattle.encoding.specs.FillLaws.{Fills}
 use Rattle.order_file.specs.Order.{order_end}
 use Rattle.order_file.specs.Ordered.{Ordered, ordered}
 use Rattle.order_file.specs.OrderedLaws.{is-ordered, ordered-count, ordered_range}
+<<<<<<< HEAD
+use Rattle.plan_file.specs.declared.answers.Recorded.{Recorded}
+use Rattle.plan_file.specs.Plan.{plan_in, read_plan}
+use Rattle.plan_file.specs.PlanRules.{read_range, read_whole}
+=======
 use Rattle.plan_file.specs.declared.answers.PlanFigures.{PlanFigures}
 use Rattle.plan_file.specs.declared.answers.Recorded.{Recorded}
 use Rattle.plan_file.specs.Plan.{buckets_of, figures_in, plan_in, read_plan, recorded_figures}
 use Rattle.plan_file.specs.PlanRules.{plan-few, read_range, read_whole}
+>>>>>>> 369428b58d0fdcca4e590c9f10b4c953d4ff6d90
 use Rattle.plan_file.specs.RecordLaws.{RecordsRange}
 use Rattle.checking.specs.Check.{Verdict, verdict_of, compared, check_of, check_in, check_files}
-use Rattle.checking.specs.WeighLaws.{Weighable, stated_plan}
+use Rattle.checking.specs.WeighLaws.{Weighable}
 
 module _ (order plan : List ℕ) where
   abbrev onward : Ordered → Answer Verdict
   onward x = and_then (plan_in plan) (compared x)
 
-  pub check_unread : (n : ℕ) → ordered trace_limit order ≡ refused n → refused n ≡ check_of order plan
-  check_unread n e = then_refused (ordered trace_limit order) onward e
+  pub check_unread : (n : ℕ) → refused n ≡ ordered trace_limit order → refused n ≡ check_of order plan
+  check_unread n e = then_refused (ordered trace_limit order) onward (sym e)
 
-  module _ (x : Ordered) (e : ordered trace_limit order ≡ figures x) (answer : Answer PlanFigures) (says : answer ≡ recorded_figures (read_plan trace_limit plan)) where
-    answer-is : answer ≡ recorded_figures (plan_in plan)
-    answer-is = says ∙ ap recorded_figures (read_whole plan)
-
+  module _ (x : Ordered) (e : figures x ≡ ordered trace_limit order) where
     order_past : onward x ≡ check_of order plan
-    order_past = then_figures (ordered trace_limit order) onward e
+    order_past = then_figures (ordered trace_limit order) onward (sym e)
 
-    pub plan_unread : (n : ℕ) → answer ≡ refused n → refused n ≡ check_of order plan
-    plan_unread n f = then_refused (plan_in plan) (compared x) (on_refused figures_in (plan_in plan) (sym answer-is ∙ f)) ∙ order_past
+    pub plan_unread : (n : ℕ) → refused n ≡ read_plan trace_limit plan → refused n ≡ check_of order plan
+    plan_unread n f = then_refused (plan_in plan) (compared x) (sym (f ∙ read_whole plan)) ∙ order_past
 
-    module _ (y : PlanFigures) (f : answer ≡ figures y) (records : Cutting) (holds : records ≡ held (buckets_of (read_plan trace_limit plan))) where
-      found : (z : Recorded) × (plan_in plan ≡ figures z) × (figures_in z ≡ y)
-      found = on_figures_lem figures_in (plan_in plan) (sym answer-is ∙ f)
+    module _ (y : Recorded) (f : figures y ≡ read_plan trace_limit plan) where
+      is-stated : plan_in plan ≡ figures y
+      is-stated = sym (f ∙ read_whole plan)
 
-      abbrev z : Recorded
-      z = found.0
-
-      stated-is : z ≡ stated_plan y records
-      stated-is =
-          let count : y.buckets ≡ length z.buckets = ap (λ (w : PlanFigures). w.buckets) (sym found.2) in
-          let first = held-records (buckets_of (read_plan trace_limit plan)) records z.buckets y.buckets holds (ap buckets_of (read_whole plan ∙ found.1)) count in
-          ap₂ (λ (w : PlanFigures) (xs : Cutting). record { periods = w.periods; cost = w.cost; buckets = xs }) found.2 (sym first)
-
-      is-stated : plan_in plan ≡ figures (stated_plan y records)
-      is-stated = found.1 ∙ ap figures stated-is
-
-      both_past : compared x (stated_plan y records) ≡ check_of order plan
+      both_past : compared x y ≡ check_of order plan
       both_past = then_figures (plan_in plan) (compared x) is-stated ∙ order_past
 
+      -- what both files give, by whether their numbers of periods are the same
+      abbrev answer : Bool → Answer Verdict
+      answer same = weigh same 10 (figures (verdict_of x.order.tariff x.demands y))
+
       pub check_unequal : (y.periods ≡ x.order.periods → ⊥) → refused 10 ≡ check_of order plan
-      check_unequal h = sym (ap (λ (ok : Bool). weigh ok 10 (figures (verdict_of x.order.tariff x.demands (stated_plan y records)))) (ne_eqb _ _ h)) ∙ both_past
+      check_unequal h = sym (ap answer (ne_eqb _ _ h)) ∙ both_past
 
       module _ (h : y.periods ≡ x.order.periods) where
-        pub weighable : Weighable x.order.tariff x.demands y.buckets records
+        pub weighable : Weighable x.order.tariff x.demands y
         weighable =
-            let p = is-ordered trace_limit order x e in
+            let p = is-ordered trace_limit order x (sym e) in
             let r = ordered_range p in
-            record {
-              tariff = r.1;
-              periods = r.0;
-              count = plan-few plan y (sym f ∙ answer-is);
-              ranges = subst (λ (T : ℕ). RecordsRange T (take y.buckets records)) (h ∙ sym (ordered-count p)) (read_range plan (stated_plan y records) is-stated);
-            }
+            let ranges = subst (λ (T : ℕ). RecordsRange T y.buckets) (h ∙ sym (ordered-count p)) (read_range plan y is-stated) in
+            record { tariff = r.1; periods = r.0; ranges = ranges }
 
-        pub check_past : figures (verdict_of x.order.tariff x.demands (stated_plan y records)) ≡ check_of order plan
-        check_past = sym (ap (λ (ok : Bool). weigh ok 10 (figures (verdict_of x.order.tariff x.demands (stated_plan y records)))) (eq-eqb _ _ h)) ∙ both_past
+        pub check_past : figures (verdict_of x.order.tariff x.demands y) ≡ check_of order plan
+        check_past = sym (ap answer (eq-eqb _ _ h)) ∙ both_past
 
 -- One file behind the other: the order ends where it ends, and the plan is the rest.
 module _ (files : List ℕ) (end : ℕ) (e : end ≡ order_end files) where

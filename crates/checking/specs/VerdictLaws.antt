@@ -18,8 +18,8 @@ use Rattle.terms.specs.Records.{Cutting, run_length, total}
 use Rattle.bucket.specs.Trace.{carries}
 use Rattle.single.specs.Single.{Serves}
 use Rattle.series.specs.Cutting.{none, run}
-use Rattle.series.specs.declared.answers.Plan.{Plan}
-use Rattle.series.specs.Series.{Carried, plan_of, true_cost_of, series_of}
+use Rattle.series.specs.declared.answers.SeriesRecords.{SeriesRecords}
+use Rattle.series.specs.Series.{Carried, found_of, true_cost_of, series_of}
 use Rattle.series.specs.SeriesLaws.{series-cheapest, series_none, series_refuses}
 use Rattle.plan_file.specs.declared.answers.Recorded.{Recorded}
 use Rattle.plan_file.specs.RecordLaws.{RecordsRange}
@@ -108,10 +108,10 @@ module _ (t : Tariff) (ds : List ℕ) (plan : Recorded) where
 
 -- What is answered of a plan, once it is weighed and the least cost is found.
 module _ (t : Tariff) (ds : List ℕ) where
-  pub least-planned : (a : Answer Plan) → a ≡ plan_of t (series_of t trace_limit ds) → least_cost t ds ≡ on_figures (λ x. x.cost) a
-  least-planned a e = go (series_of t trace_limit ds) ∙ ap (on_figures (λ x. x.cost)) (sym e)
+  pub least-planned : (a : Answer SeriesRecords) → a ≡ on_figures (found_of t) (series_of t trace_limit ds) → least_cost t ds ≡ on_figures (λ x. x.plan.cost) a
+  least-planned a e = go (series_of t trace_limit ds) ∙ ap (on_figures (λ x. x.plan.cost)) (sym e)
     where
-      go : (b : Answer Cutting) → on_figures (true_cost_of t) b ≡ on_figures (λ x. x.cost) (plan_of t b)
+      go : (b : Answer Cutting) → on_figures (true_cost_of t) b ≡ on_figures (λ x. x.plan.cost) (on_figures (found_of t) b)
       go (figures xs) = refl
       go (refused n) = refl
 

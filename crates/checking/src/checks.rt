@@ -2,8 +2,8 @@
 ghost use Rattle.std.specs.Prelude.{◌≡◌};
 ghost use Rattle.checking.specs.Check.{check_of, check_says};
 
-use crate::verdicts::{Verdict, verdict};
-use order_file::spreads::spread_order;
+use crate::verdicts::{Verdict, judge};
+use order_file::ordered::Ordered;
 use plan_file::reading::read_records;
 use terms::Refusal;
 use terms::limits::TRACE_LIMIT;
@@ -13,13 +13,10 @@ use terms::limits::TRACE_LIMIT;
 pub fn check(order: &[u8], plan: &[u8]) -> Result<Verdict, Refusal>
     ensures { check_says result ≡ check_of order.now plan.now }
 {
-    let mut demands = [0u16; TRACE_LIMIT];
-    let found = spread_order(order, &mut demands)?;
+    let order = Ordered::read(order)?;
     let stated = read_records(plan, TRACE_LIMIT)?;
-    let plan = stated.figures;
-    if plan.periods != found.periods {
+    if stated.periods != order.order().periods {
         return Err(Refusal::Unequal);
     }
-    let trace = &demands[..found.periods as usize];
-    Ok(verdict(trace, found.tariff, plan, stated.records))
+    Ok(judge(order.trace(), order.order().tariff, &stated))
 }

@@ -3,13 +3,12 @@
 ghost use Rattle.std.specs.Prelude.{◌≡◌, length};
 ghost use Rattle.terms.specs.RangeRules.{FreshRange, PeriodsRange};
 ghost use Rattle.checking.specs.Check.{plan_ok, run_ok};
-ghost use Rattle.checking.specs.WeighLaws.{Weighable, stated_plan};
+ghost use Rattle.checking.specs.WeighLaws.{Weighable};
 
 use bucket::trial;
-use plan_file::PlanFigures;
+use plan_file::Recorded;
 use single::costs::cost_of;
-use terms::limits::TRACE_LIMIT;
-use terms::{Bucket, BucketRecord, Tariff};
+use terms::{Bucket, Tariff};
 
 // Whether a bucket is inside the caps and, fresh with the tariff's factor, carries a run.
 fn run_holds(tariff: Tariff, bucket: Bucket, run: &[u16]) -> bool
@@ -27,28 +26,20 @@ fn run_holds(tariff: Tariff, bucket: Bucket, run: &[u16]) -> bool
 
 // Whether each bucket of a plan holds on its run, the runs one after the other, and the stated cost is
 // the sum of theirs.
-pub fn plan_holds(
-    trace: &[u16],
-    tariff: Tariff,
-    stated: PlanFigures,
-    records: [BucketRecord; TRACE_LIMIT],
-) -> bool
-    requires { Weighable tariff trace.now stated.buckets records }
-    ensures { result ≡ plan_ok tariff trace.now (stated_plan stated records) }
+pub fn plan_holds(trace: &[u16], tariff: Tariff, stated: &Recorded) -> bool
+    requires { Weighable tariff trace.now stated.now }
+    ensures { result ≡ plan_ok tariff trace.now stated.now }
 {
-    let buckets = stated.buckets as usize;
+    let records = stated.buckets.as_slice();
     let mut cost: u64 = 0;
     let mut start = 0;
-    let mut i = 0;
-    while i < buckets {
-        let x = records[i];
+    for &x in records {
         let end = start + x.periods as usize;
         if !run_holds(tariff, x.bucket, &trace[start..end]) {
             return false;
         }
         cost += cost_of(tariff, x.periods as u64, x.bucket);
         start = end;
-        i += 1;
     }
     stated.cost == cost
 }

@@ -2,13 +2,13 @@
 // what is required.
 ghost use Rattle.std.specs.Prelude.{◌≡◌};
 ghost use Rattle.checking.specs.Check.{verdict_of, verdict_says};
-ghost use Rattle.checking.specs.WeighLaws.{Weighable, stated_plan};
+ghost use Rattle.checking.specs.WeighLaws.{Weighable};
 
 use crate::runs::plan_holds;
-use plan_file::PlanFigures;
+use plan_file::Recorded;
 use series::planner::plan_series;
 use terms::limits::TRACE_LIMIT;
-use terms::{BucketRecord, Tariff};
+use terms::Tariff;
 
 // What is said of a plan: yes, with its excess, by how much it costs more than the cheapest for the order;
 // or no.
@@ -18,17 +18,12 @@ pub enum Verdict {
     No,
 }
 
-// The verdict on a plan with these figures, whose records stand at the front of the array.
-pub fn verdict(
-    trace: &[u16],
-    tariff: Tariff,
-    stated: PlanFigures,
-    records: [BucketRecord; TRACE_LIMIT],
-) -> Verdict
-    requires { Weighable tariff trace.now stated.buckets records }
-    ensures { verdict_says result ≡ verdict_of tariff trace.now (stated_plan stated records) }
+// The verdict on a plan.
+pub fn judge(trace: &[u16], tariff: Tariff, stated: &Recorded) -> Verdict
+    requires { Weighable tariff trace.now stated.now }
+    ensures { verdict_says result ≡ verdict_of tariff trace.now stated.now }
 {
-    if !plan_holds(trace, tariff, stated, records) {
+    if !plan_holds(trace, tariff, stated) {
         return Verdict::No;
     }
     match plan_series(trace, tariff, TRACE_LIMIT) {

@@ -1,7 +1,7 @@
 -- When three lists have room, that a refusal leaves them as they were, and one figure of each record stored in a list.
 -- Assumes nothing.
-use Rattle.std.specs.Prelude.{ℕ, ◌+◌, min, ◌≤◌, ◌<◌, ◌≡◌, List, map, length, take, drop, get_or, set}
-use Rattle.std.proofs.Common.{arith, le_trans, sym, ap, ◌∙◌, length-take-le}
+use Rattle.std.specs.Prelude.{ℕ, ◌+◌, min, ◌≤◌, ◌<◌, ◌≡◌, List, map, length, drop, get_or, set}
+use Rattle.std.proofs.Common.{arith, le_trans, sym, ap, ◌∙◌}
 use Rattle.std.proofs.Math.Nat.{min-le_left, min-le_right}
 use Rattle.std.proofs.lemmas.List.{length-map}
 use Rattle.terms.specs.declared.BucketRecord.{BucketRecord}
@@ -31,22 +31,20 @@ lists-kept a old n e =
     let kept : (figure : BucketRecord → ℕ) (xs : List ℕ) → xs ≡ recorded figure a xs = λ figure xs. sym (ap (λ (b : Answer Cutting). recorded figure b xs) e) in
     (kept run_length old.runs, (kept run_rate old.rates, kept run_depth old.depths))
 
--- ---- One figure of each of the first k records, stored in a list
+-- ---- One figure of each record, stored in a list
 
-module _ (k : ℕ) (records : Cutting) (figure : BucketRecord → ℕ) where
+module _ (records : Cutting) (figure : BucketRecord → ℕ) where
   -- the figure of each record from the i-th on
   abbrev left : ℕ → List ℕ
-  left i = map figure (drop i (take k records))
+  left i = map figure (drop i records)
 
   -- i of them are stored in `old`.
   abbrev pub Stored : List ℕ → List ℕ → ℕ → Type 0
   Stored old new i = Storing old 0 (left 0) new i (left i)
 
-  module _ {old new : List ℕ} {i : ℕ} (s : Storing old 0 (left 0) new i (left i)) (fits : k ≤ length records) where
-    pub figure_stored : i < k → Stored old (set new i (figure (get_or records i no_record))) (i + 1)
-    figure_stored l = one_stored s (figure (get_or records i no_record)) (left (i + 1)) (ap (map figure) (rest_next k records fits i l))
+  module _ {old new : List ℕ} {i : ℕ} (s : Storing old 0 (left 0) new i (left i)) where
+    pub figure_stored : i < length records → Stored old (set new i (figure (get_or records i no_record))) (i + 1)
+    figure_stored l = one_stored s (figure (get_or records i no_record)) (left (i + 1)) (ap (map figure) (rest_next records i l))
 
-    pub figures-stored : k ≤ i → k ≤ length old → new ≡ recorded figure (figures (take k records)) old
-    figures-stored l m =
-        all_stored s (ap (map figure) (rest_none k records i l))
-        ∙ sets_front (left 0) old (omega (arith, length-map (take k records) figure, length-take-le k records fits))
+    pub figures-stored : length records ≤ i → length records ≤ length old → new ≡ recorded figure (figures records) old
+    figures-stored l m = all_stored s (ap (map figure) (rest_none records i l)) ∙ sets_front (left 0) old (omega (arith, length-map records figure, m))

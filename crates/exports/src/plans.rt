@@ -9,8 +9,7 @@ ghost use Rattle.exports.specs.Lists.{Filled, lists};
 use crate::answers::{coded_fill, coded_refusal};
 use crate::figure_lists::store_figures;
 use plan_file::reading::read_records;
-use plan_file::writing::write_records;
-use plan_file::PlanFigures;
+use plan_file::{PlanFigures, write_plan};
 use planning::planned_orders::plan_order;
 use terms::limits::TRACE_LIMIT;
 
@@ -19,7 +18,7 @@ pub fn metqoraz_series(order: &[u8]) -> u64
     ensures { result ≡ coded (planned_cost order.now) }
 {
     match plan_order(order, TRACE_LIMIT, TRACE_LIMIT) {
-        Ok(x) => x.found.plan.cost,
+        Ok(x) => x.plan.cost,
         Err(why) => coded_refusal(why),
     }
 }
@@ -34,13 +33,14 @@ pub fn metqoraz_book(order: &[u8], plan: &mut [u8]) -> u64
         Ok(x) => x,
         Err(why) => return coded_refusal(why),
     };
-    let found = planned.found;
+    let order = planned.order;
+    let records = planned.records;
     let figures = PlanFigures {
-        periods: found.order.periods,
-        buckets: found.plan.buckets,
-        cost: found.plan.cost,
+        periods: order.order().periods,
+        buckets: planned.plan.buckets,
+        cost: planned.plan.cost,
     };
-    coded_fill(write_records(figures, TRACE_LIMIT, planned.records, plan))
+    coded_fill(write_plan(figures, records.as_slice(), plan))
 }
 
 // Reads a plan file: its T and its number of buckets into the two numbers, its run lengths, rates and
@@ -62,13 +62,13 @@ pub fn metqoraz_plan(
         (lists runs.new rates.new depths.new) }
 {
     let room = runs.len().min(rates.len()).min(depths.len());
-    let read = match read_records(plan, room) {
+    let found = match read_records(plan, room) {
         Ok(x) => x,
         Err(why) => return coded_refusal(why),
     };
-    let found = read.figures;
-    store_figures(read.records, found.buckets as usize, runs, rates, depths);
-    *periods = found.periods;
-    *buckets = found.buckets;
-    found.cost
+    let figures = found.figures();
+    store_figures(found.buckets.as_slice(), runs, rates, depths);
+    *periods = figures.periods;
+    *buckets = figures.buckets;
+    figures.cost
 }

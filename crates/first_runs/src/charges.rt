@@ -1,6 +1,6 @@
 // The charge of a walk through a trace, and from which charge on it can stop. Public only for this
 // crate's search, which shows what each function requires.
-ghost use Rattle.std.specs.Prelude.{◌-◌, ◌≤◌, max, ◌≡◌};
+ghost use Rattle.std.specs.Prelude.{◌-◌, ◌≤◌, ◌≡◌};
 ghost use Rattle.terms.specs.Answer.{figures};
 ghost use Rattle.terms.specs.Limits.{trace_limit};
 ghost use Rattle.terms.specs.RangeRules.{TariffRange};
@@ -95,14 +95,11 @@ pub fn stops_of(costs: &[u64], tariff: Tariff, known: u64) -> [u64; TRACE_LIMIT]
 {
     let mut stops = [0u64; TRACE_LIMIT];
     let mut charge: u64 = 0;
-    let mut periods = costs.len();
-    while 0 < periods {
-        let i = periods - 1;
-        let billed = billed_periods(tariff, periods as u64);
+    for i in (0..costs.len()).rev() {
+        let billed = billed_periods(tariff, i as u64 + 1);
         let stop = stop_at(known, tariff.fee as u64 + costs[i], billed);
         charge = charge.max(stop);
         stops[i] = charge;
-        periods = i;
     }
     stops
 }

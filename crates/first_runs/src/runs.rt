@@ -42,10 +42,8 @@ pub fn weigh_rates(
         return found;
     }
     let mut best = found;
-    let mut next = low;
-    while next < end {
+    for next in low..end {
         best = weigh_rate(trace, tariff, Rate(next), costs, counts, stops, best);
-        next += 1;
     }
     best
 }
@@ -67,19 +65,16 @@ pub fn weigh_rate(
 {
     let mut best = found;
     let mut walk = Charged::new();
-    let mut i = 0;
-    while i < trace.len() {
-        walk = walk.push(tariff, rate, rate, trace[i]);
+    for (i, &demand) in trace.iter().enumerate() {
+        walk = walk.push(tariff, rate, rate, demand);
         if stops[i] <= walk.charge {
             return best;
         }
         let cost = cost_with(tariff, i, walk.charge, costs[i]);
-        let buckets = counts[i] + 1;
-        i += 1;
         let outline = Outline {
             cost,
-            buckets,
-            first: i as u32,
+            buckets: counts[i] + 1,
+            first: i as u32 + 1,
         };
         best = better_of(best, Choice { outline, rate });
     }
@@ -104,16 +99,14 @@ fn may_better(
     ensures { PassedOver tariff trace.now costs.now counts.now low.0 high.0 found result }
 {
     let mut walk = Charged::new();
-    let mut i = 0;
-    while i < trace.len() {
-        walk = walk.push(tariff, high, low, trace[i]);
+    for (i, &demand) in trace.iter().enumerate() {
+        walk = walk.push(tariff, high, low, demand);
         if stops[i] <= walk.charge {
             return false;
         }
         if cost_with(tariff, i, walk.charge, costs[i]) <= found.outline.cost {
             return true;
         }
-        i += 1;
     }
     false
 }

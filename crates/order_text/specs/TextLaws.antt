@@ -13,8 +13,7 @@ use Rattle.order_file.specs.Order.{order_length, write_order}
 use Rattle.order_file.specs.OrderLaws.{ReadsBack, write_read}
 use Rattle.order_file.specs.OrderRules.{length-order}
 use Rattle.typed_figures.specs.Figures.{tariff_of, demands_of}
-use Rattle.order_text.specs.declared.faults.Fault.{Fault}
-use Rattle.order_text.specs.Text.{Reading, read, faulty, on_read, figures_of, write_figures, file_of, numbered, order_of}
+use Rattle.order_text.specs.Text.{read, on_read, figures_of, write_figures, file_of}
 use Rattle.order_text.specs.ScanLaws.{on_read_lem}
 use Rattle.order_text.specs.FigureLaws.{Figures, text_figures, demands_fit, figures-written, figures-short}
 
@@ -29,19 +28,6 @@ pub order-written : (ns old : List ℕ) (t : Tariff) (ds : List ℕ) (r : Answer
 order-written ns old t ds r new et ed er e =
     let same = ap₂ (λ (u : Tariff) (xs : List ℕ). write_order (length old) u xs) et ed in
     (er ∙ ap (on_figures length) same, e ∙ ap (λ (a : Answer (List ℕ)). filled a old) same)
-
-module _ (text old : List ℕ) where
-  -- r is answered, and the bytes that held `old` hold `new`.
-  abbrev pub Gives : Reading (Answer ℕ) → List ℕ → Type 0
-  Gives r new = (r ≡ on_read (on_figures length) (file_of (length old) text))
-      × ((numbered r ≡ on_figures length (order_of (length old) text)) × (new ≡ filled (order_of (length old) text) old))
-
-  pub gives_fault : (x : Fault) → figures_of text ≡ faulty x → Gives (faulty x) old
-  gives_fault x e = rw e (refl, (refl, refl))
-
-  pub gives_file : (ns : List ℕ) (r : Reading (Answer ℕ)) (new : List ℕ) → figures_of text ≡ read ns
-      → r ≡ read (on_figures length (write_figures (length old) ns)) → new ≡ filled (write_figures (length old) ns) old → Gives r new
-  gives_file ns r new e f g = rw e (f, (ap numbered f, g))
 
 -- ---- The file of a text
 

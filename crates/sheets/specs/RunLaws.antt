@@ -1,16 +1,16 @@
 -- The lines of a plan's runs: stored run by run, and how long they are.
 -- Assumes nothing.
-use Rattle.std.specs.Prelude.{ℕ, ◌+◌, ◌-◌, ◌≤◌, ◌<◌, ◌≡◌, refl, length, take, drop, get_or}
-use Rattle.std.proofs.Common.{arith, sym, ◌∙◌, length-take, length-drop, drop-drop}
+use Rattle.std.specs.Prelude.{ℕ, ◌+◌, ◌≤◌, ◌<◌, ◌≡◌, refl, length, take, drop, get_or}
+use Rattle.std.proofs.Common.{arith, sym, ◌∙◌, drop-drop}
 use Rattle.std.proofs.Math.Path.{ap, subst}
 use mathlib.Core.List.{List, [], ◌∷◌, ◌++◌, append-nil, append_assoc}
 use Rattle.terms.specs.declared.BucketRecord.{BucketRecord}
 use Rattle.terms.specs.declared.Factor.{Factor}
 use Rattle.terms.specs.Limits.{trace_limit}
-use Rattle.terms.specs.RangeRules.{FactorRange, FreshRange, RecordRange, PeriodsRange}
+use Rattle.terms.specs.RangeRules.{FactorRange, RecordRange}
 use Rattle.terms.specs.Records.{Cutting, Each, run_length, total}
 use Rattle.record_list.specs.Held.{no_record}
-use Rattle.record_list.specs.PartLaws.{Begins, first_begins, next_begins, rest_next, rest_none, run_inside}
+use Rattle.record_list.specs.PartLaws.{Begins, first_begins, next_begins, rest_next, rest_none}
 use Rattle.text.specs.PutLaws.{Puts, Room, room-front, room_next, puts_both}
 use Rattle.sheets.specs.Sheet.{run_line, run_lines}
 

@@ -17,8 +17,8 @@ use Rattle.order_file.specs.OrderedLaws.{ordered-count, ordered_range}
 use Rattle.text.specs.Fitted.{fitted}
 use Rattle.text.specs.FittedLaws.{long, zeros}
 use Rattle.text.specs.Lines.{plan_line}
-use Rattle.text.specs.PutLaws.{Puts, Room}
-use Rattle.text.specs.ChainLaws.{second_of_two, two}
+use Rattle.text.specs.PutLaws.{Puts}
+use Rattle.text.specs.ChainLaws.{two}
 use Rattle.planning.specs.declared.planned_orders.PlannedOrder.{PlannedOrder}
 use Rattle.planning.specs.Planning.{Planned, planned, planned_order}
 use Rattle.planning.specs.PlannedLaws.{IsPlanned, planned-cheapest, carried-sum, served_range}

@@ -5,9 +5,9 @@ ghost use Rattle.terms.specs.Lent.{filled};
 ghost use Rattle.terms.specs.Refusals.{says};
 ghost use Rattle.sheets.specs.Sheet.{sheet_in};
 
-use terms::Refusal;
 use crate::plan_sheets::{LONGEST_SHEET, put_sheet};
 use planning::planned_orders::plan_order;
+use terms::Refusal;
 use terms::limits::TRACE_LIMIT;
 use text::fills::fill;
 

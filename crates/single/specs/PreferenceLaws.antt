@@ -1,8 +1,9 @@
 -- "Not preferred" is a total preorder, and no bucket is preferred that is at least as large in rate and depth,
 -- or dearer.
 -- Assumes nothing.
-use Rattle.std.specs.Prelude.{ℕ, ◌≤◌, ◌<◌, ◌≡◌, refl, Bool, true, false, ◌&&◌, ◌||◌, ltb, eqb}
-use Rattle.std.proofs.Common.{arith, le_antisymm, le_of_eq, le_of_lt, le_trans, sym, ap, ◌∙◌, true≢false, ltb-true, ltb-false, le-ltb, eqb-true, eq-eqb}
+use Rattle.std.specs.Prelude.{ℕ, ◌≤◌, ◌<◌, ◌≡◌, refl, Bool, true, false, cond, ◌&&◌, ◌||◌, Some, ltb, eqb}
+use Rattle.std.proofs.Common.{arith, le_antisymm, le_of_eq, le_of_lt, le_trans, sym, ap, ◌∙◌, true≢false, ltb-true, ltb-false, le-ltb, eqb-true, eq-eqb, Ordering, Less, Equal, Greater}
+use Rattle.std.specs.Ordering.{is_lt, is_some_and, nat_cmp, partial_ordering_then}
 use Rattle.terms.specs.Bools.{and_both}
 use Rattle.terms.specs.ChooseLaws.{Order}
 use Rattle.terms.specs.declared.Bucket.{Bucket}
@@ -11,6 +12,29 @@ use Rattle.single.specs.declared.costs.Priced.{Priced}
 use Rattle.single.specs.Cost.{priced_at}
 use Rattle.single.specs.CostLaws.{cost_mono}
 use Rattle.single.specs.Preference.{smaller, preferred}
+
+-- The library's order of tuples is this one: the first number that differs decides.
+abbrev ranked : Bool → Bool → Ordering
+ranked less same = cond less Less (cond same Equal Greater)
+
+pub tuple-smaller : (a b c x y z : ℕ)
+    → is_some_and is_lt
+    (partial_ordering_then (partial_ordering_then (Some (nat_cmp a x)) (Some (nat_cmp b y))) (Some (nat_cmp c z)))
+    ≡ smaller a x (smaller b y (smaller c z false))
+unfolding smaller
+tuple-smaller a b c x y z = go (ltb a x) (eqb a x) (ltb b y) (eqb b y) (ltb c z) (eqb c z)
+  where
+    go : (a b c d e f : Bool)
+        → is_some_and is_lt
+        (partial_ordering_then (partial_ordering_then (Some (ranked a b)) (Some (ranked c d))) (Some (ranked e f)))
+        ≡ (a || b && (c || d && (e || f && false)))
+    go true b c d e f = refl
+    go false false c d e f = refl
+    go false true true d e f = refl
+    go false true false false e f = refl
+    go false true false true true f = refl
+    go false true false true false true = refl
+    go false true false true false false = refl
 
 -- The first number is not the smaller exactly when it is at least the second and, between equal ones, the rest says no.
 pub not_smaller : (a b : ℕ) (rest : Bool) → b ≤ a → (a ≡ b → rest ≡ false) → smaller a b rest ≡ false

@@ -4,8 +4,7 @@
 use Rattle.std.specs.Prelude.{ℕ, zero, suc, ◌≤◌, ◌≡◌, true, List, length}
 use Rattle.terms.specs.declared.Bucket.{Bucket}
 use Rattle.terms.specs.declared.Tariff.{Tariff}
-use Rattle.terms.specs.Answer.{Answer, figures, refused, weigh, on_figures, choose}
-use Rattle.terms.specs.Refusals.{number_of}
+use Rattle.terms.specs.Answer.{Answer, refused, weigh, on_figures, choose}
 use Rattle.terms.specs.Ranges.{periods_ok, tariff_ok}
 use Rattle.bucket.specs.Trace.{carries}
 use Rattle.depth.specs.Depth.{tariff_depth}
@@ -47,4 +46,3 @@ cheapest_of t ds = best_of t ds (candidates t)
 -- 3: the trace's length; 5: the tariff; 7: no bucket.
 unfoldable pub single_of : Tariff → List ℕ → Answer Priced
 single_of t ds = weigh (periods_ok (length ds)) 3 (weigh (tariff_ok t) 5 (cheapest_of t ds))
-

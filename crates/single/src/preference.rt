@@ -5,8 +5,8 @@ ghost use Rattle.terms.specs.Refusals.{says};
 ghost use Rattle.single.specs.Preference.{preferred};
 ghost use Rattle.single.specs.Single.{better};
 
-use terms::Refusal;
 use crate::costs::Priced;
+use terms::Refusal;
 
 // Whether x is chosen before y: at less cost, or equal cost and a smaller rate, or both equal and
 // a smaller depth.
@@ -15,20 +15,15 @@ pub fn is_preferred(x: Priced, y: Priced) -> bool
 {
     let a = x.bucket;
     let b = y.bucket;
-    let shallower = (a.rate.0 == b.rate.0) & (a.depth.0 < b.depth.0);
-    let slower = (a.rate.0 < b.rate.0) | shallower;
-    (x.cost < y.cost) | ((x.cost == y.cost) & slower)
+    (x.cost, a.rate.0, a.depth.0) < (y.cost, b.rate.0, b.depth.0)
 }
 
 // What was found so far, or the new bucket where that is preferred.
 pub fn better_of(old: Result<Priced, Refusal>, new: Priced) -> Result<Priced, Refusal>
     ensures { says result ≡ better (says old) (figures new) }
 {
-    let Ok(x) = old else {
-        return Ok(new);
-    };
-    if is_preferred(new, x) {
-        return Ok(new);
+    match old {
+        Ok(x) if !is_preferred(new, x) => old,
+        _ => Ok(new),
     }
-    old
 }

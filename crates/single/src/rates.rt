@@ -15,6 +15,7 @@ pub fn rates_to_weigh(trace: &[u16], tariff: Tariff) -> u32
     tariff.rate_cap.0.min(greatest_demand(trace)) + 1
 }
 
+#[tactic(auto, unfolding(crate::specs::Rates::greatest))]
 fn greatest_demand(trace: &[u16]) -> u32
     ensures { result ≡ greatest trace.now }
 {

@@ -13,6 +13,7 @@ use terms::{Bucket, Depth, Rate, Refusal, Tariff, periods_in_range, tariff_in_ra
 
 // The bucket inside the tariff's caps that carries the trace at least cost, equal costs going to
 // the smaller rate and then the smaller depth; or refusal 3, 5 or 7 (no such bucket).
+#[tactic(auto, unfolding(crate::specs::Single::single_of))]
 pub fn single(trace: &[u16], tariff: Tariff) -> Result<Priced, Refusal>
     ensures { says result ≡ single_of tariff trace.now }
 {
@@ -61,8 +62,5 @@ fn cheapest(trace: &[u16], tariff: Tariff) -> Result<Priced, Refusal>
 fn costs_less(a: Result<Priced, Refusal>, floor: Priced) -> bool
     ensures { result ≡ dearer floor (says a) }
 {
-    match a {
-        Ok(x) => x.cost < floor.cost,
-        Err(_) => false,
-    }
+    a.is_ok_and(|x| x.cost < floor.cost)
 }

@@ -4,7 +4,6 @@ use Rattle.std.specs.Prelude.{ℕ, suc, ◌+◌, ◌-◌, ◌*◌, ◌/◌, ◌%
 use Rattle.std.proofs.Common.{arith, zero-lt-suc, mod-lt, sym, subst, ◌∙◌, leb-true, le-leb, length-append, drop_of_length-le}
 use Rattle.std.proofs.Math.Nat.{mod-add-div}
 use Rattle.std.proofs.Math.Path.{ap}
-use Rattle.std.proofs.lemmas.Bool.{lt-leb}
 use Rattle.terms.specs.Answer.{figures, refused}
 use Rattle.terms.specs.Bools.{and_both, both_and}
 use Rattle.terms.specs.Records.{Each}
@@ -23,9 +22,6 @@ digit_range b h = let k = and_both (leb 48 b) (leb b 57) h in omega (arith, leb-
 -- ---- One more digit
 
 module _ (limit v b : ℕ) where
-  pub push_above : limit < appended v b → pushed limit v b ≡ None
-  push_above h = rw (lt-leb (appended v b) limit h)
-
   pub push_within : appended v b ≤ limit → pushed limit v b ≡ Some (appended v b)
   push_within h = rw (le-leb (appended v b) limit h)
 
@@ -51,10 +47,6 @@ module _ (limit v b : ℕ) where
 pub number_begin : (w : List ℕ) → 0 < length w → number_from 0 w ≡ number_in w
 number_begin [] h = absurd (omega arith)
 number_begin (b ∷ bs) h = refl
-
-pub number_empty : (w : List ℕ) → length w ≡ 0 → number_in w ≡ refused 5
-number_empty [] h = refl
-number_empty (b ∷ bs) h = absurd (omega arith)
 
 module _ (w : List ℕ) (v i : ℕ) where
   pub number_end : length w ≤ i → number_from v (drop i w) ≡ figures v

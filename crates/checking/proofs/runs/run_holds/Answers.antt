@@ -8,9 +8,6 @@ use Rattle.bucket.specs.declared.trials.TrialFigures.{TrialFigures}
 use Rattle.bucket.specs.TrialLaws.{nothing-over, tried}
 use Rattle.checking.proofs.runs.run_holds.Goals as goal
 
-pub returns-in_default : goal.returns-in_default
-returns-in_default c = absurd (figures-refused (sym (tried _ _ c.args.run.now c.requires.fresh_range c.requires.periods_range) ∙ sym c.trial.ensures ∙ ap says c.in_default.is))
-
 pub returns : goal.returns
 returns c =
     let b = c.args.bucket in

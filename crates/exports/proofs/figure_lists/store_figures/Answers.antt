@@ -13,33 +13,28 @@ use Rattle.exports.proofs.figure_lists.store_figures.Goals as goal
 pub loop-i-init : goal.loop-i-init
 loop-i-init c = record { runs-stored = none_stored _ 0 _; rates-stored = none_stored _ 0 _; depths-stored = none_stored _ 0 _ }
 
-pub bounds-records-i : goal.bounds-records-i
-bounds-records-i c = omega (arith, c.loop-i-test.true, c.requires.count_le_trace_limit)
-
 pub bounds-runs-i : goal.bounds-runs-i
 bounds-runs-i c =
-    let room : let a = c.args in Rooms a.count a.runs.now a.rates.now a.depths.now = let a = c.args in rooms a.count a.runs.now a.rates.now a.depths.now c.requires.count_bound in
+    let room : let a = c.args in Rooms (length a.records.now) a.runs.now a.rates.now a.depths.now = let a = c.args in rooms (length a.records.now) a.runs.now a.rates.now a.depths.now c.requires in
     omega (arith, c.loop-i-test.true, (room).first, c.loop-i.invariant.runs-stored.same)
 
 pub bounds-rates-i : goal.bounds-rates-i
 bounds-rates-i c =
-    let room : let a = c.args in Rooms a.count a.runs.now a.rates.now a.depths.now = let a = c.args in rooms a.count a.runs.now a.rates.now a.depths.now c.requires.count_bound in
+    let room : let a = c.args in Rooms (length a.records.now) a.runs.now a.rates.now a.depths.now = let a = c.args in rooms (length a.records.now) a.runs.now a.rates.now a.depths.now c.requires in
     omega (arith, c.loop-i-test.true, (room).second, c.loop-i.invariant.rates-stored.same)
 
 pub bounds-depths-i : goal.bounds-depths-i
 bounds-depths-i c =
-    let room : let a = c.args in Rooms a.count a.runs.now a.rates.now a.depths.now = let a = c.args in rooms a.count a.runs.now a.rates.now a.depths.now c.requires.count_bound in
+    let room : let a = c.args in Rooms (length a.records.now) a.runs.now a.rates.now a.depths.now = let a = c.args in rooms (length a.records.now) a.runs.now a.rates.now a.depths.now c.requires in
     omega (arith, c.loop-i-test.true, (room).third, c.loop-i.invariant.depths-stored.same)
 
 pub loop-i-preserved : goal.loop-i-preserved
 loop-i-preserved c =
-    let fits : c.args.count ≤ length c.args.records = omega (arith, c.requires.count_le_trace_limit) in
     let w = c.loop-i.invariant in
-    let l = fits in
     record {
-      runs-stored = figure_stored _ _ run_length w.runs-stored l c.loop-i-test.true;
-      rates-stored = figure_stored _ _ run_rate w.rates-stored l c.loop-i-test.true;
-      depths-stored = figure_stored _ _ run_depth w.depths-stored l c.loop-i-test.true;
+      runs-stored = figure_stored _ run_length w.runs-stored c.loop-i-test.true;
+      rates-stored = figure_stored _ run_rate w.rates-stored c.loop-i-test.true;
+      depths-stored = figure_stored _ run_depth w.depths-stored c.loop-i-test.true;
     }
 
 pub shape_of-runs : goal.shape_of-runs
@@ -53,13 +48,12 @@ shape_of-depths c = c.loop-i.invariant.depths-stored.same
 
 pub returns : goal.returns
 returns c =
-    let fits : c.args.count ≤ length c.args.records = omega (arith, c.requires.count_le_trace_limit) in
-    let room : let a = c.args in Rooms a.count a.runs.now a.rates.now a.depths.now = let a = c.args in rooms a.count a.runs.now a.rates.now a.depths.now c.requires.count_bound in
+    let room : let a = c.args in Rooms (length a.records.now) a.runs.now a.rates.now a.depths.now = let a = c.args in rooms (length a.records.now) a.runs.now a.rates.now a.depths.now c.requires in
     let w = c.loop-i.invariant in
     let h = c.loop-i-test.false in (
-      figures-stored _ _ run_length w.runs-stored (fits) h (room).first,
+      figures-stored _ run_length w.runs-stored h (room).first,
       (
-        figures-stored _ _ run_rate w.rates-stored (fits) h (room).second,
-        figures-stored _ _ run_depth w.depths-stored (fits) h (room).third,
+        figures-stored _ run_rate w.rates-stored h (room).second,
+        figures-stored _ run_depth w.depths-stored h (room).third,
       ),
     )

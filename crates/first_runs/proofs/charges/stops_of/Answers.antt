@@ -19,15 +19,16 @@ module _ (t : Tariff) (known : ℕ) (costs : List ℕ) where
   begin = record { inside = le_refl _; whole = refl; stopping = stopping_start t known costs (replicate 512 0) (length costs) (le_refl _) }
 
   module _ (stops : List ℕ) (charge periods : ℕ) (k : Filling t known costs stops charge periods) where
-    step : length costs ≤ trace_limit → 0 < periods → (n stop next : ℕ) → n ≡ billed t periods → StopsAt known (t.fee + get_or costs (periods - 1) 0) n stop → next ≡ max charge stop
-        → Filling t known costs (set stops (periods - 1) next) next (periods - 1)
+    step : length costs ≤ trace_limit → 0 < periods → let i = periods - 1 in (n stop next : ℕ) → n ≡ billed t (i + 1)
+        → StopsAt known (t.fee + get_or costs i 0) n stop → next ≡ max charge stop
+        → Filling t known costs (set stops i next) next i
     step few some length stop next f at e =
         let i = periods - 1 in
         let n : periods ≡ suc i = omega arith in
-        let m : periods ≡ i + 1 = omega arith in
-        let here : (c : ℕ) → stop ≤ c → known < cost_at t (i + 1) c + get_or costs i 0 = λ c l.
-        subst (λ (x : ℕ). known < cost_at t x c + get_or costs i 0) m (subst (λ (x : ℕ). known < c * x + t.fee + get_or costs i 0) f (omega (arith, at.beyond c l))) in
-        let more = stopping_more t known costs stops i charge stop (omega (arith, k.whole, k.inside)) (subst (λ (x : ℕ). Stopping t known costs x charge stops) n k.stopping) (omega (arith, at.few)) here in
+        let here : (c : ℕ) → stop ≤ c → known < cost_at t (i + 1) c + get_or costs i 0 =
+            λ c l. subst (λ (x : ℕ). known < c * x + t.fee + get_or costs i 0) f (omega (arith, at.beyond c l)) in
+        let kept = subst (λ (x : ℕ). Stopping t known costs x charge stops) n k.stopping in
+        let more = stopping_more t known costs stops i charge stop (omega (arith, k.whole, k.inside)) kept (omega (arith, at.few)) here in
         record {
           inside = omega (arith, k.inside);
           whole = k.whole ∙ sym (length-set stops i next);
@@ -39,26 +40,14 @@ module _ (t : Tariff) (known : ℕ) (costs : List ℕ) where
         let z : periods ≡ 0 = omega arith in
         stopping_end t known costs stops charge (omega (arith, k.whole)) (subst (λ (n : ℕ). Stopping t known costs n charge stops) z k.stopping)
 
-pub loop-periods-init : goal.loop-periods-init
-loop-periods-init c = begin _ _ _
-
-pub bounds-costs-i : goal.bounds-costs-i
-bounds-costs-i c = omega (arith, c.loop-periods.invariant.inside, c.loop-periods-test.true)
-
-pub overflow_add-tariff : goal.overflow_add-tariff
-overflow_add-tariff c = omega (arith, c.requires.cost_range.each (c.loop-periods.periods - 1) (omega (arith, c.loop-periods.invariant.inside, c.loop-periods-test.true)), c.requires.tariff_range.fees)
+pub loop-i-init : goal.loop-i-init
+loop-i-init c = begin _ _ _
 
 pub stop_at-stop-requires : goal.stop_at-stop-requires
-stop_at-stop-requires c = record { le_periods = omega (arith, c.billed_periods-billed.ensures, c.loop-periods-test.true); known_le_unpriced = c.requires.known_le_unpriced }
+stop_at-stop-requires c = record { le_periods = omega (arith, c.billed_periods-billed.ensures, c.loop-i-test.true); known_le_unpriced = c.requires.known_le_unpriced }
 
-pub bounds-stops-i : goal.bounds-stops-i
-bounds-stops-i c = omega (arith, c.loop-periods.invariant.inside, c.requires.cost_range.few, c.loop-periods-test.true)
-
-pub loop-periods-smaller : goal.loop-periods-smaller
-loop-periods-smaller c = omega (arith, c.loop-periods-test.true)
-
-pub loop-periods-preserved : goal.loop-periods-preserved
-loop-periods-preserved c = step _ _ _ _ _ _ c.loop-periods.invariant c.requires.cost_range.few c.loop-periods-test.true _ _ _ c.billed_periods-billed.ensures c.stop_at-stop.ensures c.max-charge.ensures
+pub loop-i-preserved : goal.loop-i-preserved
+loop-i-preserved c = step _ _ _ _ _ _ c.loop-i.invariant c.requires.cost_range.few c.loop-i-test.true _ _ _ c.billed_periods-billed.ensures c.stop_at-stop.ensures c.max-charge.ensures
 
 pub returns : goal.returns
-returns c = end _ _ _ _ _ _ c.loop-periods.invariant c.requires.cost_range.few c.loop-periods-test.false
+returns c = end _ _ _ _ _ _ c.loop-i.invariant c.requires.cost_range.few c.loop-i-test.false

@@ -18,8 +18,5 @@ pub record Filling (t : Tariff) (known : ℕ) (costs stops : List ℕ) (charge p
   pub whole : 512 ≡ length stops
   pub stopping : Stopping t known costs periods charge stops
 
-abbrev pub invariant-loop-periods : goal.invariant-loop-periods
-invariant-loop-periods l = Filling l.tariff l.known l.costs l.stops l.charge l.periods
-
-abbrev pub decreases-loop-periods : goal.decreases-loop-periods
-decreases-loop-periods l = l.periods
+abbrev pub invariant-loop-i : goal.invariant-loop-i
+invariant-loop-i l = Filling l.tariff l.known l.costs l.stops l.charge l.i

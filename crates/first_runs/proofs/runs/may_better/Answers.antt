@@ -16,32 +16,14 @@ loop-i-init c = passing_start _ _ _ _ _ _ c.requires.searching _ _ _ (walked_sta
 
 pub push-walk-requires : goal.push-walk-requires
 push-walk-requires c =
-    let demands : Demands c.args.trace.now = record { each = λ i. omega (arith, c.shared_slice_known-1.given i) } in
+    let demands : Demands c.args.trace.now = record { each = λ i. omega (arith, c.type_inv.trace i) } in
     let k = c.requires.searching in
     let w = c.loop-i.invariant.walk in record { tariff_range = k.rests.tariffs; high_bound = c.requires.high_bound; low_bound = le_trans c.requires.low_le_high c.requires.high_bound; walk_range = walked-room _ _ _ _ _ w c.loop-i-test.true (le_trans c.requires.high_bound k.rests.tariffs.rate_caps) (demands) k.rests.few; walk_value = w.depth }
-
-pub offset_bounds-stops-i : goal.offset_bounds-stops-i
-offset_bounds-stops-i c =
-    let period : c.loop-i.i < 512 = omega (arith, c.loop-i-test.true, c.requires.searching.rests.few) in
-    omega (arith, period)
-
-pub bounds-stops-i : goal.bounds-stops-i
-bounds-stops-i c =
-    let k = c.requires.searching in
-    omega (arith, c.loop-i-test.true, k.rests.costs_all, k.stopped.room)
 
 pub returns-then-stops-i : goal.returns-then-stops-i
 returns-then-stops-i c =
     let k = c.requires.searching in
     λ e. passing_stop _ _ _ _ _ _ k _ _ _ _ _ c.loop-i.invariant c.loop-i-test.true c.push-walk.ensures c.if-stops-i.true
-
-pub offset_bounds-costs-i : goal.offset_bounds-costs-i
-offset_bounds-costs-i c =
-    let period : c.loop-i.i < 512 = omega (arith, c.loop-i-test.true, c.requires.searching.rests.few) in
-    omega (arith, period)
-
-pub bounds-costs-i : goal.bounds-costs-i
-bounds-costs-i c = omega (arith, c.loop-i-test.true, c.requires.searching.rests.costs_all)
 
 pub cost_with-requires : goal.cost_with-requires
 cost_with-requires c =
@@ -50,14 +32,6 @@ cost_with-requires c =
 
 pub returns-then-cost_with-found : goal.returns-then-cost_with-found
 returns-then-cost_with-found c = λ e. absurd (true≢false e)
-
-pub overflow_add-i : goal.overflow_add-i
-overflow_add-i c =
-    let period : c.loop-i.i < 512 = omega (arith, c.loop-i-test.true, c.requires.searching.rests.few) in
-    omega (arith, period)
-
-pub loop-i-smaller : goal.loop-i-smaller
-loop-i-smaller c = omega (arith, c.loop-i-test.true)
 
 pub loop-i-preserved : goal.loop-i-preserved
 loop-i-preserved c =

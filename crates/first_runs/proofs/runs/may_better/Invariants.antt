@@ -13,6 +13,3 @@ use Rattle.first_runs.proofs.runs.may_better.Given as goal
 
 abbrev pub invariant-loop-i : goal.invariant-loop-i
 invariant-loop-i l = Passing l.tariff l.trace l.costs l.counts l.found l.low.0 l.high.0 l.walk l.i
-
-abbrev pub decreases-loop-i : goal.decreases-loop-i
-decreases-loop-i l = length l.trace - l.i

@@ -14,62 +14,20 @@ loop-i-init c = weighing_start _ _ _ _ _ _ c.requires.searching _ _ (walked_star
 
 pub push-walk-requires : goal.push-walk-requires
 push-walk-requires c =
-    let demands : Demands c.args.trace.now = record { each = λ i. omega (arith, c.shared_slice_known-1.given i) } in
+    let demands : Demands c.args.trace.now = record { each = λ i. omega (arith, c.type_inv.trace i) } in
     let t = c.requires.searching.rests.tariffs in
     let w = c.loop-i.invariant.walk in
     record { tariff_range = t; high_bound = c.requires.rate_bound; low_bound = c.requires.rate_bound; walk_range = walked-room _ _ _ _ _ w c.loop-i-test.true (le_trans c.requires.rate_bound t.rate_caps) (demands) c.requires.searching.rests.few; walk_value = w.depth }
-
-pub offset_bounds-stops-i : goal.offset_bounds-stops-i
-offset_bounds-stops-i c =
-    let period : c.loop-i.i < 512 = omega (arith, c.loop-i-test.true, c.requires.searching.rests.few) in
-    omega (arith, period)
-
-pub bounds-stops-i : goal.bounds-stops-i
-bounds-stops-i c =
-    let k = c.requires.searching in
-    omega (arith, c.loop-i-test.true, k.rests.costs_all, k.stopped.room)
 
 pub returns-then-stops-i : goal.returns-then-stops-i
 returns-then-stops-i c =
     let k = c.requires.searching in
     weighing_stop _ _ _ _ _ _ k _ _ _ _ c.loop-i.invariant _ c.loop-i-test.true c.push-walk.ensures c.if-stops-i.true
 
-pub offset_bounds-costs-i : goal.offset_bounds-costs-i
-offset_bounds-costs-i c =
-    let period : c.loop-i.i < 512 = omega (arith, c.loop-i-test.true, c.requires.searching.rests.few) in
-    omega (arith, period)
-
-pub bounds-costs-i : goal.bounds-costs-i
-bounds-costs-i c = omega (arith, c.loop-i-test.true, c.requires.searching.rests.costs_all)
-
 pub cost_with-cost-requires : goal.cost_with-cost-requires
 cost_with-cost-requires c =
     let period : c.loop-i.i < 512 = omega (arith, c.loop-i-test.true, c.requires.searching.rests.few) in
     let k = c.requires.searching in record { tariff_range = k.rests.tariffs; i_lt_trace_limit = period; charge_le_period_limit = charge_limit _ _ _ _ _ _ k _ _ _ _ _ c.loop-i.invariant.walk c.loop-i-test.true c.push-walk.ensures c.requires.rate_bound c.if-stops-i.false; rest_le_unpriced = k.rests.cost _ c.loop-i-test.true }
-
-pub offset_bounds-counts-i : goal.offset_bounds-counts-i
-offset_bounds-counts-i c =
-    let period : c.loop-i.i < 512 = omega (arith, c.loop-i-test.true, c.requires.searching.rests.few) in
-    omega (arith, period)
-
-pub bounds-counts-i : goal.bounds-counts-i
-bounds-counts-i c = omega (arith, c.loop-i-test.true, c.requires.searching.rests.counts_all)
-
-pub overflow_add-buckets : goal.overflow_add-buckets
-overflow_add-buckets c = omega (arith, c.requires.searching.rests.count _ c.loop-i-test.true)
-
-pub overflow_add-i : goal.overflow_add-i
-overflow_add-i c =
-    let period : c.loop-i.i < 512 = omega (arith, c.loop-i-test.true, c.requires.searching.rests.few) in
-    omega (arith, period)
-
-pub overflow_cast-outline : goal.overflow_cast-outline
-overflow_cast-outline c =
-    let period : c.loop-i.i < 512 = omega (arith, c.loop-i-test.true, c.requires.searching.rests.few) in
-    omega (arith, period)
-
-pub loop-i-smaller : goal.loop-i-smaller
-loop-i-smaller c = omega (arith, c.loop-i-test.true)
 
 pub loop-i-preserved : goal.loop-i-preserved
 loop-i-preserved c = weighing_next _ _ _ _ _ _ c.requires.searching _ _ _ _ c.loop-i.invariant _ c.loop-i-test.true c.push-walk.ensures c.requires.rate_bound c.if-stops-i.false _ c.cost_with-cost.ensures _ c.better_of-best.ensures

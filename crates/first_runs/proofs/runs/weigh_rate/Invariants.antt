@@ -11,6 +11,3 @@ use Rattle.first_runs.proofs.runs.weigh_rate.Given as goal
 
 abbrev pub invariant-loop-i : goal.invariant-loop-i
 invariant-loop-i l = Weighing l.tariff l.trace l.costs l.counts l.initial.best l.rate.0 l.best l.walk l.i
-
-abbrev pub decreases-loop-i : goal.decreases-loop-i
-decreases-loop-i l = length l.trace - l.i

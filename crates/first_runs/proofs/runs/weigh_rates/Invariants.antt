@@ -9,6 +9,3 @@ use Rattle.first_runs.proofs.runs.weigh_rates.Given as goal
 
 abbrev pub invariant-loop-next : goal.invariant-loop-next
 invariant-loop-next l = Turns l.tariff l.trace l.costs l.counts l.low l.end l.initial.best l.best l.next
-
-abbrev pub decreases-loop-next : goal.decreases-loop-next
-decreases-loop-next l = l.end - l.next

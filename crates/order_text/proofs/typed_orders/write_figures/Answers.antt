@@ -1,9 +1,9 @@
 -- The list's front holds the demands, so that the order written is that of the figures.
 use Prim.Native.Nat.{◌-◌}
 use native.Mathlib.Omega.{arith}
-use mathlib.Core.Path.{◌≡◌, sym, ap, subst, ◌∙◌}
+use mathlib.Core.Path.{sym, ap, subst, ◌∙◌}
 use borrow.Author.Rules.{part_to_end}
-use lib.ListN.{length, length-drop, take}
+use lib.ListN.{length, length-drop}
 use lib.Seq.{sets}
 use Rattle.encoding.specs.NumberLaws.{Fit}
 use Rattle.typed_figures.specs.Figures.{tariff_figures, demands_of}

@@ -19,13 +19,17 @@ back text n front ends t l e f h =
 
 pub returns-then-start-front : goal.returns-then-start-front
 returns-then-start-front c =
-    let e = back c.args.text.now c.loop-before.before _ _ true c.loop-before-test.true c.mark_length-front.ensures c.ends_figure.ensures c.if-start-front.true in
-    omega (arith, c.loop-before-test.true, e, c.loop-before.invariant)
+    let at = c.loop-before in
+    let e = back c.args.text.now at.before _ _ true c.loop-before-test.true c.mark_length-front.ensures c.ends_figure.ensures c.if-start-front.true in
+    omega (arith, c.loop-before-test.true, e, at.invariant)
 
 pub loop-before-preserved : goal.loop-before-preserved
 loop-before-preserved c =
-    let e = back c.args.text.now c.loop-before.before _ _ false c.loop-before-test.true c.mark_length-front.ensures c.ends_figure.ensures c.if-start-front.false in
-    sym e ∙ c.loop-before.invariant
+    let at = c.loop-before in
+    let e = back c.args.text.now at.before _ _ false c.loop-before-test.true c.mark_length-front.ensures c.ends_figure.ensures c.if-start-front.false in
+    sym e ∙ at.invariant
 
 pub returns : goal.returns
-returns c = omega (arith, c.loop-before.invariant, start_inside c.args.text.now c.loop-before.before, c.loop-before-test.false)
+returns c =
+    let at = c.loop-before in
+    omega (arith, at.invariant, start_inside c.args.text.now at.before, c.loop-before-test.false)

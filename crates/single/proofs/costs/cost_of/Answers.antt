@@ -1,8 +1,6 @@
 -- The cost at the bucket's charge, which is bounded.
-use Prim.Native.Nat.{ℕ, ◌≤◌}
-use mathlib.Core.Path.{sym, ap, subst, ◌∙◌}
+use mathlib.Core.Path.{ap, ◌∙◌}
 use Rattle.single.specs.Cost.{cost_at, cost_of}
-use Rattle.single.specs.CostLaws.{period_limit, charge_le}
 use Rattle.single.proofs.costs.cost_of.Goals as goal
 
 pub returns : goal.returns

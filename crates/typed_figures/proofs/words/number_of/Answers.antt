@@ -1,5 +1,4 @@
 -- After each turn the value and the bytes from the place reached on stand for the number of the word.
-use native.Mathlib.Omega.{arith}
 use mathlib.Core.Path.{sym, ◌∙◌}
 use Rattle.typed_figures.specs.DecimalLaws.{number_end, number_other, number_above, number_next}
 use Rattle.typed_figures.proofs.words.number_of.Goals as goal
