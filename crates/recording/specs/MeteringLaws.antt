@@ -9,7 +9,6 @@ use Rattle.terms.specs.declared.Factor.{Factor}
 use Rattle.terms.specs.Answer.{Answer, figures, refused, on_figures, and_then}
 use Rattle.terms.specs.Limits.{meter_limit, total_limit, trace_limit}
 use Rattle.terms.specs.Records.{Cutting, run_length, total}
-use Rattle.terms.specs.Refusals.{number_of}
 use Rattle.bucket.specs.Laws.{demands-take, demands-drop}
 use Rattle.bucket.specs.Trace.{Demands}
 use Rattle.meter.specs.declared.meters.Meter.{Meter}
