@@ -1,20 +1,23 @@
 -- The list of calls: what it answers depends on the lengths of what is lent alone, and what it leaves, call by call.
 -- Assumes nothing.
-use Rattle.std.specs.Prelude.{ℕ, ◌≡◌, refl, List, length, take}
-use Rattle.std.proofs.Common.{sym, ap, subst, ◌∙◌}
+use Rattle.std.specs.Prelude.{ℕ, ◌≤◌, ◌≡◌, refl, List, length}
+use Rattle.std.proofs.Common.{arith, sym, ap, subst, ◌∙◌, le_refl}
+use Rattle.std.proofs.Math.Seq.{take-length}
 use Rattle.terms.specs.Answer.{Answer, figures, refused, on_figures, and_then}
 use Rattle.terms.specs.AnswerLaws.{then_figures, then_refused}
 use Rattle.terms.specs.Lent.{filled}
-use Rattle.terms.specs.Records.{Cutting}
-use Rattle.record_list.specs.Held.{held}
+use Rattle.series.specs.OutlineLaws.{carried-count}
+use Rattle.series.specs.SeriesLaws.{series-room}
+use Rattle.order_file.specs.OrderedLaws.{ordered-count}
 use Rattle.plan_file.specs.declared.answers.PlanFigures.{PlanFigures}
-use Rattle.plan_file.specs.Plan.{plan_file}
+use Rattle.plan_file.specs.CallLaws.{any-list}
+use Rattle.plan_file.specs.Plan.{plan_file, write_plan}
 use Rattle.planning.specs.declared.planned_orders.PlannedOrder.{PlannedOrder}
-use Rattle.planning.specs.declared.planned_orders.PlannedRecords.{PlannedRecords}
-use Rattle.planning.specs.Planning.{Planned, planned, planned_records, zeros}
-use Rattle.planning.specs.CallLaws.{plan-refused, the_plan, plan-found, plan_figures_lem, plan_records, trace-is, records_are}
+use Rattle.planning.specs.Planning.{Planned, planned, planned_order}
+use Rattle.planning.specs.PlannedLaws.{IsPlanned, planned-cheapest}
+use Rattle.planning.specs.CallLaws.{plan-refused, the_plan, plan-found, plan_order_lem, plan-is}
 use Rattle.recording.specs.declared.recorded.BookingRecords.{BookingRecords}
-use Rattle.recording.specs.Recording.{Recording, recording, written, booking_of, recorded_records}
+use Rattle.recording.specs.Recording.{Recording, recording, written, booked}
 use Rattle.recording.specs.RecordingLaws.{RecordsPlan}
 use Rattle.booking.specs.declared.calls.BookedRecords.{BookedRecords}
 use Rattle.booking.specs.Booking.{Lent, Steps, plan_figures, answer_of}
@@ -53,15 +56,14 @@ module _ (z : Sizes) where
 
 -- ---- Call by call
 
--- The booking with the demands, the records of the plan found and those read back at the fronts of arrays, as they
--- travel below the call.
+-- The booking with the order, the records of the plan found and those read back, as they travel below the call.
 abbrev pub booked_records : Steps → BookedRecords
 booked_records s =
     record {
       booking = answer_of s;
-      demands = filled (figures s.planning.demands) zeros;
-      plan = held (figures s.planning.cutting);
-      back = held (figures s.recording.plan.buckets);
+      order = record { order = s.planning.order; demands = s.planning.demands };
+      plan = s.planning.cutting;
+      back = s.recording.plan.buckets;
     }
 
 -- What the calls answer and what they leave in the bytes.
@@ -73,7 +75,7 @@ module _ (bs : List ℕ) (entries room : ℕ) (bytes : List ℕ) (space : ℕ) w
   abbrev z : Sizes
   z = sizes entries room (length bytes) space
 
-  pub planning-refused : (n : ℕ) → refused n ≡ on_figures planned_records (planned entries room bs) → Called bs z bytes bytes (refused n)
+  pub planning-refused : (n : ℕ) → refused n ≡ on_figures planned_order (planned entries room bs) → Called bs z bytes bytes (refused n)
   planning-refused n f =
       let none : refused n ≡ booked_in z bs = then_refused (planned_in z bs) _ (plan-refused bs entries room n f) in
       record {
@@ -81,9 +83,34 @@ module _ (bs : List ℕ) (entries room : ℕ) (bytes : List ℕ) (space : ℕ) w
         writes = ap (λ (a : Answer Steps). filled (on_figures (λ s. s.recording.file) a) bytes) none;
       }
 
-  module _ (p : PlannedRecords) (k : figures p ≡ on_figures planned_records (planned entries room bs)) where
+  module _ (p : PlannedOrder) (k : figures p ≡ on_figures planned_order (planned entries room bs)) where
     abbrev x : Planned
     x = the_plan bs entries room p k
+
+    is : IsPlanned entries room bs x
+    is = plan-is bs entries room p k
+
+    -- the demands are as many as the order says
+    pub demands-are : length p.order.demands ≡ p.order.order.periods
+    demands-are = ordered-count is.as_ordered
+
+    abbrev figures_for : PlannedOrder → PlanFigures
+    figures_for y = record { periods = y.order.order.periods; buckets = y.plan.buckets; cost = y.plan.cost }
+
+    figures-are : figures_for p ≡ plan_figures x
+    figures-are = ap figures_for (sym (plan_order_lem bs entries room p k))
+
+    -- the records of the plan found fit the lent list, so writing from them alone gives the same
+    few : length p.records ≤ room
+    few =
+        let t = p.order.order.tariff in
+        omega (arith, carried-count t (planned-cheapest is).carried, series-room t p.order.demands room p.records is.series)
+
+    file-is : write_plan (length bytes) (figures_for p) p.records ≡ file_in z x
+    file-is =
+        ap (λ (y : PlanFigures). write_plan (length bytes) y p.records) figures-are
+        ∙ ap (plan_file (length p.records) (length bytes) (plan_figures x)) (take-length p.records)
+        ∙ any-list (length p.records) room (length bytes) (plan_figures x) p.records (le_refl _) few
 
     abbrev steps_with : Recording → Steps
     steps_with y = record { planning = x; recording = y }
@@ -91,37 +118,30 @@ module _ (bs : List ℕ) (entries room : ℕ) (bytes : List ℕ) (space : ℕ) w
     with-recording : on_figures steps_with (recording_in z x) ≡ booked_in z bs
     with-recording = then_figures (planned_in z bs) _ (plan-found bs entries room p k)
 
-    abbrev figures_for : PlannedOrder → PlanFigures
-    figures_for z = record { periods = z.order.periods; buckets = z.plan.buckets; cost = z.plan.cost }
-
-    abbrev RecordedBy : PlannedOrder → List ℕ → Cutting → List ℕ → Answer BookingRecords → Type 0
-    RecordedBy z ds xs = RecordsPlan (figures_for z) (plan_file room (length bytes) (figures_for z) xs) z.order.tariff.factor ds bytes space
-
     -- a plan recorded, with what planning left
     abbrev booked_with : BookingRecords → BookedRecords
-    booked_with b = record { booking = b.booking; demands = p.demands; plan = p.records; back = b.records }
+    booked_with b = record { booking = b.booking; order = p.order; plan = p.records; back = b.records }
 
-    booked-is : (a : Answer Recording) → on_figures booked_with (on_figures recorded_records a) ≡ on_figures booked_records (on_figures steps_with a)
-    booked-is (figures y) =
-        ap (λ (q : PlannedRecords). figures (record { booking = booking_of y; demands = q.demands; plan = q.records; back = held (figures y.plan.buckets) }))
-        (sym (plan_records bs entries room p k))
+    booked-is : (a : Answer Recording) → on_figures booked_with (on_figures booked a) ≡ on_figures booked_records (on_figures steps_with a)
+    booked-is (figures y) = refl
     booked-is (refused n) = refl
 
-    file-is : (a : Answer Recording) → on_figures (λ y. y.file) a ≡ on_figures (λ (s : Steps). s.recording.file) (on_figures steps_with a)
-    file-is (figures y) = refl
-    file-is (refused n) = refl
+    written-is : (a : Answer Recording) → on_figures (λ y. y.file) a ≡ on_figures (λ (s : Steps). s.recording.file) (on_figures steps_with a)
+    written-is (figures y) = refl
+    written-is (refused n) = refl
 
-    pub plan-recorded : (bytes' : List ℕ) (b : Answer BookingRecords)
-        → RecordedBy p.found (take p.found.order.periods p.demands) (take p.found.plan.buckets p.records) bytes' b
+    abbrev RecordedBy : PlanFigures → Answer (List ℕ) → List ℕ → Answer BookingRecords → Type 0
+    RecordedBy y file = RecordsPlan y file p.order.order.tariff.factor p.order.demands bytes space
+
+    pub plan-recorded : (bytes' : List ℕ) (b : Answer BookingRecords) → RecordedBy (figures_for p) (write_plan (length bytes) (figures_for p) p.records) bytes' b
         → Called bs z bytes bytes' (on_figures booked_with b)
     plan-recorded bytes' b r =
-        let on-trace = subst (λ (ds : List ℕ). RecordedBy p.found ds (take p.found.plan.buckets p.records) bytes' b) (trace-is bs entries room p k) r in
-        let on-records = subst (λ (xs : Cutting). RecordedBy p.found x.demands xs bytes' b) (records_are bs entries room p k) on-trace in
-        let c = subst (λ (z : PlannedOrder). RecordedBy z x.demands x.cutting bytes' b) (sym (plan_figures_lem bs entries room p k)) on-records in
+        let on-file = subst (λ (file : Answer (List ℕ)). RecordedBy (figures_for p) file bytes' b) file-is r in
+        let c = subst (λ (y : PlanFigures). RecordedBy y (file_in z x) bytes' b) figures-are on-file in
         record {
           answers = ap (on_figures booked_with) c.answers ∙ booked-is (recording_in z x) ∙ ap (on_figures booked_records) with-recording;
           writes =
               c.writes
-              ∙ ap (λ (d : Answer (List ℕ)). filled d bytes) (file-is (recording_in z x))
+              ∙ ap (λ (d : Answer (List ℕ)). filled d bytes) (written-is (recording_in z x))
               ∙ ap (λ (a : Answer Steps). filled (on_figures (λ s. s.recording.file) a) bytes) with-recording;
         }

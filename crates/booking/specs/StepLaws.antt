@@ -16,7 +16,8 @@ use Rattle.series.specs.OutlineLaws.{carried-count}
 use Rattle.series.specs.SeriesLaws.{series-room}
 use Rattle.encoding.specs.NumberLaws.{Bytes}
 use Rattle.order_file.specs.OrderedLaws.{ordered-count, ordered_range}
-use Rattle.plan_file.specs.Plan.{Recorded, counts_ok, plan_length, plan_bytes, read_plan}
+use Rattle.plan_file.specs.declared.answers.Recorded.{Recorded}
+use Rattle.plan_file.specs.Plan.{counts_ok, plan_length, plan_bytes, read_plan}
 use Rattle.plan_file.specs.PlanLaws.{file-read}
 use Rattle.plan_file.specs.PlanRules.{counts_ok_lem, write_figures_lem}
 use Rattle.plan_file.specs.RecordLaws.{RecordsRange, records_ok_lem}

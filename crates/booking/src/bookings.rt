@@ -5,7 +5,8 @@ ghost use Rattle.booking.specs.Booking.{lent};
 ghost use Rattle.booking.specs.Claim.{Claim};
 
 use recording::Booking;
-use crate::records::book_records;
+use crate::calls::make_calls;
+use order_file::spreads::store_demands;
 use record_list::copies::store_records;
 use terms::{BucketRecord, Refusal};
 
@@ -26,9 +27,9 @@ pub fn book(
         (lent demands.new plan.new bytes.new back.new)
         (says result) }
 {
-    let booked = book_records(order, demands, plan.len(), bytes, back.len())?;
-    let count = booked.booking.plan.buckets as usize;
-    store_records(plan, booked.plan, count);
-    store_records(back, booked.back, count);
+    let booked = make_calls(order, demands.len(), plan.len(), bytes, back.len())?;
+    store_demands(booked.order.trace(), demands);
+    store_records(plan, booked.plan.as_slice());
+    store_records(back, booked.back.as_slice());
     Ok(booked.booking)
 }

@@ -3,21 +3,21 @@ ghost use Rattle.std.specs.Prelude.{length};
 ghost use Rattle.terms.specs.Refusals.{says};
 ghost use Rattle.booking.specs.CallLaws.{Called, sizes};
 
+use order_file::ordered::Ordered;
 use plan_file::PlanFigures;
 use planning::planned_orders::plan_order;
+use record_list::records::Records;
 use recording::Booking;
 use recording::recorded::record_plan;
-use terms::limits::TRACE_LIMIT;
-use terms::{BucketRecord, Refusal};
+use terms::Refusal;
 
-// A booking, with the order's demands, the records of the plan found and those read back, each at the
-// front of an array.
-#[derive(Clone, Copy)]
+// A booking, with the order, the records of the plan found and those read back.
+#[derive(Drop)]
 pub struct BookedRecords {
     pub booking: Booking,
-    pub demands: [u16; TRACE_LIMIT],
-    pub plan: [BucketRecord; TRACE_LIMIT],
-    pub back: [BucketRecord; TRACE_LIMIT],
+    pub order: Ordered,
+    pub plan: Records,
+    pub back: Records,
 }
 
 // The whole list of calls, for a list of `entries` demands and lists of `room` and of `space` records.
@@ -32,19 +32,19 @@ pub fn make_calls(
         bytes.old bytes.new (says result) }
 {
     let planned = plan_order(order, entries, room)?;
-    let found = planned.found;
+    let order = planned.order;
+    let plan = planned.records;
     let figures = PlanFigures {
-        periods: found.order.periods,
-        buckets: found.plan.buckets,
-        cost: found.plan.cost,
+        periods: order.order().periods,
+        buckets: planned.plan.buckets,
+        cost: planned.plan.cost,
     };
-    let trace = &planned.demands[..found.order.periods as usize];
-    let factor = found.order.tariff.factor;
-    let recorded = record_plan(figures, factor, trace, room, planned.records, bytes, space)?;
+    let factor = order.order().tariff.factor;
+    let recorded = record_plan(figures, plan.as_slice(), factor, order.trace(), bytes, space)?;
     Ok(BookedRecords {
         booking: recorded.booking,
-        demands: planned.demands,
-        plan: planned.records,
+        order,
+        plan,
         back: recorded.records,
     })
 }

@@ -4,7 +4,6 @@
 
 mod bookings;
 mod calls;
-mod records;
 
 pub use bookings::book;
 pub use recording::{Booking, MeterTotals};

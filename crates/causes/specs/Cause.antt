@@ -2,7 +2,7 @@
 -- and "stretch" are document 02's words; periods are counted from 1. That a cause is always found for a depth above 0,
 -- and what it says of the trace and of the bucket, are laws (`CauseLaws`, `DiscardLaws`).
 -- Assumes nothing.
-use Rattle.std.specs.Prelude.{ℕ, ◌-◌, ◌*◌, Bool, true, false, cond, List, Result, eqb, ltb, length}
+use Rattle.std.specs.Prelude.{ℕ, ◌-◌, ◌*◌, Bool, true, false, cond, List, Option, Some, None, Result, eqb, ltb, length}
 use Rattle.std.proofs.Math.Seq.{slice}
 use Rattle.terms.specs.declared.Tariff.{Tariff}
 use Rattle.terms.specs.declared.refusal.Refusal.{Refusal}
@@ -72,6 +72,11 @@ short_stretch r ds C = and_then (stretch_end r C ds) (λ v. on_figures (λ u. st
 -- Nothing at depth 0. Else what a depth one smaller falls short of: an opening goes before a stretch.
 unfoldable pub cause_of : Tariff → ℕ → List ℕ → ℕ → SetBy
 cause_of t r ds B = cond (eqb B 0) nothing (figure_or (short_opening t r ds (B - 1)) (figure_or (short_stretch r ds (B - 1)) nothing))
+
+-- What a search of the code says: the number found, or none.
+abbrev pub number_found : Option ℕ → Answer ℕ
+number_found (Some n) = figures n
+number_found None = refused 7
 
 -- ---- The call
 

@@ -164,20 +164,7 @@ module _ (t : Tariff) (r : ℕ) (ds : List ℕ) where
           least_first = λ w i l. met r ds C w v (first.smaller w i l);
         }
 
-    -- What the code finds: the number of the opening's periods, and where that is 0 the stretch.
-    pub record Opened (n : ℕ) : Type 0 where
-      pub inside : n ≤ length ds
-      pub named : cause_of t r ds B ≡ opening n
-
-    pub opened : (n : ℕ) → n ≡ figure_or (opening_end r (start_at t C) ds) 0 → (n ≡ 0 → ⊥) → Opened n
-    opened n e some = go found
-      where
-        go : Found C → Opened n
-        go (opens v o) =
-            let f : n ≡ v = e ∙ ap (λ (a : Answer ℕ). figure_or a 0) o in
-            subst Opened (sym f) (record { inside = (opening-is v o).inside; named = cause-opens v o })
-        go (stretches u v m o f g) = absurd (some (e ∙ ap (λ (a : Answer ℕ). figure_or a 0) o))
-
+    -- What the code finds where no opening is short.
     pub record Stretched : Type 0 where
       pub first : ℕ
       pub last : ℕ

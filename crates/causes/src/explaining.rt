@@ -63,8 +63,7 @@ fn cause_of(trace: &[u16], rate: Rate, tariff: Tariff, depth: Depth) -> Cause
         depth: Depth(depth.0 - 1),
     };
     let tokens = starting_tokens(smaller, tariff.factor);
-    let periods = opening_end(trace, rate, tokens);
-    if periods != 0 {
+    if let Some(periods) = opening_end(trace, rate, tokens) {
         return Cause::Opening(Opening {
             periods: periods as u32,
         });

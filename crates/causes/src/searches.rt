@@ -3,29 +3,27 @@ ghost use Rattle.std.specs.Prelude.{◌≤◌, ◌≡◌, length};
 ghost use Rattle.terms.specs.Answer.{figure_or};
 ghost use Rattle.terms.specs.Limits.{depth_limit, rate_limit};
 ghost use Rattle.terms.specs.RangeRules.{BucketRange, PeriodsRange};
-ghost use Rattle.causes.specs.Cause.{opening_end, stretch_end, stretch_start};
+ghost use Rattle.causes.specs.Cause.{number_found, opening_end, stretch_end, stretch_start};
 
 use terms::{Bucket, Rate};
 
-// How many first periods need more than the tokens, the least such number; or 0 where none do.
-pub fn opening_end(trace: &[u16], rate: Rate, tokens: u32) -> usize
+// How many first periods need more than the tokens, the least such number; or none.
+pub fn opening_end(trace: &[u16], rate: Rate, tokens: u32) -> Option<usize>
     requires periods_range { PeriodsRange (length trace.now) }
     requires rate_le_rate_limit { rate.0 ≤ rate_limit }
     requires tokens_le_depth_limit { tokens ≤ depth_limit }
-    ensures { result ≡ figure_or (opening_end rate.0 tokens trace.now) 0 }
+    ensures { number_found result ≡ opening_end rate.0 tokens trace.now }
 {
     let mut demands: u32 = 0;
     let mut tokens = tokens;
-    let mut i = 0;
-    while i < trace.len() {
-        demands += trace[i] as u32;
+    for (i, &demand) in trace.iter().enumerate() {
+        demands += demand as u32;
         tokens += rate.0;
-        i += 1;
         if tokens < demands {
-            return i;
+            return Some(i + 1);
         }
     }
-    0
+    None
 }
 
 // The last period of the stretch, from period 2 or later, that needs more than the depth and ends first;
@@ -36,15 +34,13 @@ pub fn stretch_end(trace: &[u16], bucket: Bucket) -> usize
     ensures { result ≡ figure_or (stretch_end bucket.rate.0 bucket.depth.0 trace.now) (length trace.now) }
 {
     let mut need: u32 = 0;
-    let mut last = 1;
-    while last < trace.len() {
-        need = (need + trace[last] as u32).saturating_sub(bucket.rate.0);
-        last += 1;
+    for i in 1..trace.len() {
+        need = (need + trace[i] as u32).saturating_sub(bucket.rate.0);
         if bucket.depth.0 < need {
-            return last;
+            return i + 1;
         }
     }
-    last
+    trace.len()
 }
 
 // The first period of the longest stretch, from period 2 or later, that ends with the last and needs more
@@ -59,14 +55,12 @@ pub fn stretch_start(trace: &[u16], bucket: Bucket, last: usize) -> usize
     let mut first = last;
     let mut demands: u32 = 0;
     let mut tokens = bucket.depth.0;
-    let mut u = last;
-    while 1 < u {
-        demands += trace[u - 1] as u32;
+    for i in (1..last).rev() {
+        demands += trace[i] as u32;
         tokens += bucket.rate.0;
         if tokens < demands {
-            first = u;
+            first = i + 1;
         }
-        u -= 1;
     }
     first
 }

@@ -11,7 +11,8 @@ use Rattle.meter.specs.declared.meters.Meter.{Meter}
 use Rattle.meter.specs.Meter.{meter_run}
 use Rattle.series.specs.Series.{true_cost_of}
 use Rattle.order_file.specs.Order.{write_order}
-use Rattle.plan_file.specs.Plan.{Recorded, plan_file, read_plan}
+use Rattle.plan_file.specs.declared.answers.Recorded.{Recorded}
+use Rattle.plan_file.specs.Plan.{plan_file, read_plan}
 use Rattle.planning.specs.Planning.{planned}
 use Rattle.booking.specs.Booking.{plan_figures}
 use Rattle.causes.specs.Cause.{SetBy, nothing, opening, stretch}

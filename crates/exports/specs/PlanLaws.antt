@@ -12,7 +12,8 @@ use Rattle.series.specs.Series.{true_cost_of}
 use Rattle.record_list.specs.Held.{counted, held}
 use Rattle.record_list.specs.HeldLaws.{held-records}
 use Rattle.plan_file.specs.declared.answers.PlanFigures.{PlanFigures}
-use Rattle.plan_file.specs.Plan.{Recorded, buckets_of, figures_in, plan_file, read_plan, recorded_figures}
+use Rattle.plan_file.specs.declared.answers.Recorded.{Recorded}
+use Rattle.plan_file.specs.Plan.{buckets_of, figures_in, plan_file, read_plan, recorded_figures}
 use Rattle.plan_file.specs.CallLaws.{count_fits}
 use Rattle.planning.specs.declared.planned_orders.PlannedOrder.{PlannedOrder}
 use Rattle.planning.specs.declared.planned_orders.PlannedRecords.{PlannedRecords}

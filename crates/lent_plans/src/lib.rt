@@ -6,6 +6,6 @@ mod cuttings;
 mod files;
 
 pub use cuttings::series;
-pub use files::{read_plan, write_plan};
-pub use plan_file::PlanFigures;
+pub use files::read_plan;
+pub use plan_file::{PlanFigures, write_plan};
 pub use series::Plan;

@@ -4,7 +4,7 @@ use Rattle.std.specs.Prelude.{ℕ, ◌+◌, ◌*◌, ◌≡◌, Bool, ◌&&◌, 
 use Rattle.terms.specs.declared.Bucket.{Bucket}
 use Rattle.terms.specs.declared.Factor.{Factor}
 use Rattle.terms.specs.Answer.{Answer, figures, refused, weigh, and_then}
-use Rattle.terms.specs.Refusals.{number_of, says}
+use Rattle.terms.specs.Refusals.{says}
 use Rattle.terms.specs.Limits.{demand_limit, meter_limit, total_limit}
 use Rattle.terms.specs.Ranges.{fresh_ok}
 use Rattle.bucket.specs.declared.period.Period.{Period}

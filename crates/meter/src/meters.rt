@@ -51,14 +51,14 @@ pub fn open_meter(bucket: Bucket, factor: Factor) -> Result<Meter, Refusal>
 
 // One period of a meter with an offer of kilobits, or refusal 8 or 9, and then the record comes
 // back as it was. The record may be any at all.
+#[tactic(auto, unfolding(crate::specs::Meter::offer_of))]
 pub fn offer(meter: Meter, demand: u16) -> Offered
     ensures { Answered meter demand result }
 {
     if !record_in_order(meter) {
         return refuse(meter, Refusal::Meter);
     }
-    let bucket = meter.bucket;
-    let period = step(bucket, meter.held, demand);
+    let period = step(meter.bucket, meter.held, demand);
     let next = counted(meter, period);
     if METER_LIMIT < next.periods {
         return refuse(meter, Refusal::Full);
@@ -84,44 +84,34 @@ fn counted(m: Meter, period: Period) -> Meter
     requires { TotalsRange m }
     ensures { result ≡ record_after m (figures period) }
 {
-    let bucket = m.bucket;
-    let factor = m.factor;
     Meter {
-        bucket,
-        factor,
         held: period.held,
         periods: m.periods + 1,
         sent: m.sent + period.sent as u64,
         over: m.over + period.over as u64,
         lost: m.lost + period.lost as u64,
+        ..m
     }
 }
 
 // Whether a record breaks none of the rules of refusal 8.
+#[tactic(auto, unfolding(crate::specs::Meter::meter_ok))]
 fn record_in_order(m: Meter) -> bool
     ensures { result ≡ meter_ok m }
 {
-    let bucket = m.bucket;
-    let factor = m.factor;
-    if !fresh_in_range(bucket, factor) {
-        return false;
-    }
-    if !totals_in_range(m) {
-        return false;
-    }
-    balances(m)
+    fresh_in_range(m.bucket, m.factor) && totals_in_range(m) && balances(m)
 }
 
 // Whether tokens, periods and totals are within their limits.
 fn totals_in_range(m: Meter) -> bool
     ensures { result ≡ totals_ok m }
 {
-    (m.held <= m.bucket.depth.0)
-        & (m.periods <= METER_LIMIT)
-        & (m.sent <= TOTAL_LIMIT)
-        & (m.over <= TOTAL_LIMIT)
-        & (m.lost <= TOTAL_LIMIT)
-        & (m.over <= DEMAND_LIMIT as u64 * m.periods as u64)
+    m.held <= m.bucket.depth.0
+        && m.periods <= METER_LIMIT
+        && m.sent <= TOTAL_LIMIT
+        && m.over <= TOTAL_LIMIT
+        && m.lost <= TOTAL_LIMIT
+        && m.over <= DEMAND_LIMIT as u64 * m.periods as u64
 }
 
 // Whether the starting tokens and the rate of each period are what was sent, lost and is held.
@@ -130,9 +120,7 @@ fn balances(m: Meter) -> bool
     requires totals_range { TotalsRange m }
     ensures { result ≡ balanced m }
 {
-    let bucket = m.bucket;
-    let factor = m.factor;
-    let start = starting_tokens(bucket, factor);
+    let start = starting_tokens(m.bucket, m.factor);
     let gained = m.bucket.rate.0 as u64 * m.periods as u64;
     start as u64 + gained == m.sent + m.lost + m.held as u64
 }

@@ -16,6 +16,7 @@ pub fn meter_run(bucket: Bucket, factor: Factor, demands: &[u16]) -> Result<Mete
 }
 
 // The record that the offers leave, or the first refusal.
+#[tactic(auto, using(crate::proofs::Offers::offers_next, crate::proofs::Offers::offers_none))]
 fn offer_each(opened: Meter, demands: &[u16]) -> Result<Meter, Refusal>
     ensures { says result ≡ offers_of opened demands.now }
 {

@@ -34,6 +34,7 @@ pub struct Order {
 
 // Reads an order from any bytes: T and the tariff; or refusal 1, 2, 3, 4 or 5. Bytes that are read are
 // the very file that writing those figures gives.
+#[tactic(auto, unfolding(crate::specs::Order::read_order))]
 pub fn read_order(bytes: &[u8]) -> Result<Order, Refusal>
     ensures result_value { says result ≡ read_order bytes.now }
     ensures very_order { VeryOrder bytes.now (says result) }
@@ -89,6 +90,7 @@ pub fn trace_part(bytes: &[u8]) -> &[u8]
 
 // Writes an order of these demands into the front of the bytes and answers its length; or refusal
 // 3, 5 or 6 (bytes fewer than the file), and the bytes are as they were.
+#[tactic(auto, unfolding(crate::specs::Order::write_order))]
 pub fn write_order(tariff: Tariff, trace: &[u16], bytes: &mut [u8]) -> Result<usize, Refusal>
     ensures result_value { says result ≡ on_figures length (write_order (length bytes.old) tariff trace.now) }
     ensures bytes_after { bytes.new ≡ filled (write_order (length bytes.old) tariff trace.now) bytes.old }

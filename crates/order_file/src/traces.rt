@@ -15,6 +15,7 @@ use terms::limits::TRACE_LIMIT;
 // Spreads the trace's part into the front of the list and answers how many demands there are; or
 // refusal 3 (a part of an odd length, of none or of more than 1,024 bytes) or 6 (a list with fewer
 // entries than demands), and the list is as it was.
+#[tactic(auto, unfolding(crate::specs::Order::spread_of))]
 pub fn spread(part: &[u8], demands: &mut [u16]) -> Result<usize, Refusal>
     ensures result_value { says result ≡ on_figures length (spread_of (length demands.old) part.now) }
     ensures demands_after { demands.new ≡ filled (spread_of (length demands.old) part.now) demands.old }
@@ -35,7 +36,7 @@ pub fn spread(part: &[u8], demands: &mut [u16]) -> Result<usize, Refusal>
 fn part_in_range(n: usize) -> bool
     ensures { result ≡ part_ok n }
 {
-    (n % 2 == 0) & (2 <= n) & (n <= 2 * TRACE_LIMIT)
+    n % 2 == 0 && 2 <= n && n <= 2 * TRACE_LIMIT
 }
 
 // Stores the demands of the part from the front of the list on.

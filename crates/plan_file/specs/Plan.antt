@@ -8,7 +8,7 @@ use Rattle.terms.specs.Limits.{cost_limit, trace_limit}
 use Rattle.terms.specs.Ranges.{periods_ok, record_ok}
 use Rattle.terms.specs.Records.{Cutting, record_of, run_length, run_rate, run_depth, total}
 use Rattle.plan_file.specs.declared.answers.PlanFigures.{PlanFigures}
-pub use Rattle.plan_file.specs.declared.answers.Recorded.{Recorded}
+use Rattle.plan_file.specs.declared.answers.Recorded.{Recorded}
 use Rattle.encoding.specs.Number.{bytes_of, number_at, bytes_of_all, items_at}
 use Rattle.encoding.specs.Header.{placed_as}
 

@@ -17,7 +17,8 @@ use Rattle.encoding.specs.Header.{Placed}
 use Rattle.encoding.specs.HeaderLaws.{headed, header_decides, placed_range}
 use Rattle.record_list.specs.Held.{no_record}
 use Rattle.plan_file.specs.RecordLaws.{RecordsRange, records_ok_lem}
-use Rattle.plan_file.specs.Plan.{Recorded, figures_in, plan_kind, cost_offset, buckets_offset, plan_length, longest_plan, counts_ok, plan_words, plan_bytes, record_bytes, record_at, records_in, plan_in, read_plan, plan_file, write_plan, VeryPlan}
+use Rattle.plan_file.specs.declared.answers.Recorded.{Recorded}
+use Rattle.plan_file.specs.Plan.{figures_in, plan_kind, cost_offset, buckets_offset, plan_length, longest_plan, counts_ok, plan_words, plan_bytes, record_bytes, record_at, records_in, plan_in, read_plan, plan_file, write_plan, VeryPlan}
 use Rattle.plan_file.specs.PlanRules.{PlanRules, CountsRange, counts_ok_lem, counts_range, plan_placed, buckets_in, recorded_in, rules_read, read_rules, read_fits, read-holds, write_figures_lem, write_rules, length-head, length_record, length-plan}
 
 -- ---- One record

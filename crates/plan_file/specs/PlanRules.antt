@@ -18,7 +18,8 @@ use Rattle.encoding.specs.NumberLaws.{length_items, length-bytes, length_all}
 use Rattle.encoding.specs.Header.{Placed, placed_as}
 use Rattle.encoding.specs.HeaderLaws.{placed_range, placed_ok}
 use Rattle.plan_file.specs.RecordLaws.{RecordsRange, records_range, records_ok_lem}
-use Rattle.plan_file.specs.Plan.{Recorded, figures_in, plan_kind, cost_offset, buckets_offset, plan_length, plan_bytes, counts_ok, records_ok, records_in, plan_in, fitting, read_plan, recorded_figures, plan_words, record_bytes, plan_file}
+use Rattle.plan_file.specs.declared.answers.Recorded.{Recorded}
+use Rattle.plan_file.specs.Plan.{figures_in, plan_kind, cost_offset, buckets_offset, plan_length, plan_bytes, counts_ok, records_ok, records_in, plan_in, fitting, read_plan, recorded_figures, plan_words, record_bytes, plan_file}
 
 -- T and k in their ranges, as orders of numbers.
 pub record CountsRange (T k : ℕ) : Type 0 where

@@ -22,5 +22,5 @@ pub const LONGEST_PLAN: usize = BUCKETS_OFFSET + RECORD_BYTES * TRACE_LIMIT;
 pub fn counts_in_range(periods: u32, buckets: u32) -> bool
     ensures { result ≡ counts_ok periods buckets }
 {
-    periods_in_range(periods as usize) & (1 <= buckets) & (buckets <= periods)
+    periods_in_range(periods as usize) && 1 <= buckets && buckets <= periods
 }

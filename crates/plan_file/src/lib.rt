@@ -9,5 +9,5 @@ mod records;
 mod writing;
 
 pub use answers::{PlanFigures, Recorded};
-pub use writing::write_plan;
 pub use layout::LONGEST_PLAN;
+pub use writing::write_plan;

@@ -24,6 +24,7 @@ pub fn read_records(bytes: &[u8], room: usize) -> Result<Recorded, Refusal>
 }
 
 // Weighs all that a plan file holds; or refusal 1 to 5.
+#[tactic(auto, unfolding(crate::specs::Plan::plan_in))]
 fn plan_in(bytes: &[u8]) -> Result<Recorded, Refusal>
     ensures { says result ≡ plan_in bytes.now }
 {

@@ -1,12 +1,11 @@
 // The bucket records of a plan, in a file and in a list. Public only for this crate's calls, which
 // show what is required.
-ghost use Rattle.std.specs.Prelude.{◌+◌, ◌*◌, ◌≤◌, ◌≡◌, ◌&&◌, eqb, length, take};
+ghost use Rattle.std.specs.Prelude.{◌+◌, ◌*◌, ◌≤◌, ◌≡◌, length};
 ghost use Rattle.std.proofs.lemmas.List.Edits.{sets};
 ghost use Rattle.terms.specs.Limits.{trace_limit};
 ghost use Rattle.terms.specs.Records.{record_of};
 ghost use Rattle.encoding.specs.Number.{bytes_of_all};
 ghost use Rattle.plan_file.specs.Plan.{plan_length, record_at, record_bytes, records_in, records_ok};
-ghost use Rattle.plan_file.specs.RecordLaws.{pushed, word_limit};
 
 use crate::layout::{BUCKETS_OFFSET, RECORD_BYTES};
 use encoding::numbers::{put_words, word_at};
@@ -35,44 +34,20 @@ fn record_of(periods: u32, rate: u32, depth: u32) -> BucketRecord
     BucketRecord { periods, bucket }
 }
 
-// The records weighed so far: whether each is in its range, and the sum of their run lengths, which
-// needs more than 32 bits.
-#[derive(Clone, Copy)]
-pub struct Tally {
-    pub ok: bool,
-    pub sum: u64,
-}
-
-impl Tally {
-    fn push(self, x: BucketRecord) -> Self
-        requires { self.sum ≤ word_limit * trace_limit }
-        ensures value { result ≡ pushed self x }
-        ensures sum_bound { result.sum ≤ self.sum + word_limit }
-    {
-        Tally {
-            ok: self.ok & record_in_range(x),
-            sum: self.sum + x.periods as u64,
-        }
-    }
-
-    // Whether all are in range and the run lengths sum to T.
-    fn whole(self, periods: u32) -> bool
-        ensures { result ≡ self.ok && eqb self.sum periods }
-    {
-        self.ok & (self.sum == periods as u64)
-    }
-}
-
-// Whether each record is in its range and the run lengths sum to T.
+// Whether each record is in its range and the run lengths sum to T, in more than 32 bits.
+#[tactic(auto, using(crate::proofs::Weighing::weighing))]
 pub fn records_in_range(periods: u32, records: &[BucketRecord]) -> bool
     requires { length records.now ≤ trace_limit }
     ensures { result ≡ records_ok periods records.now }
 {
-    let mut tally = Tally { ok: true, sum: 0 };
+    let mut sum: u64 = 0;
     for &x in records {
-        tally = tally.push(x);
+        if !record_in_range(x) {
+            return false;
+        }
+        sum += x.periods as u64;
     }
-    tally.whole(periods)
+    sum == periods as u64
 }
 
 // The records of a file.

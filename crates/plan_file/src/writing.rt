@@ -18,7 +18,12 @@ use terms::{BucketRecord, Refusal};
 // Writes a plan into the front of the bytes, its records from the front of the list, and answers its
 // length; or refusal 3, 5 or 6 (a list with fewer entries than buckets, whose records are then not
 // weighed, or bytes fewer than the file), and the bytes are as they were.
-pub fn write_plan(plan: PlanFigures, list: &[BucketRecord], bytes: &mut [u8]) -> Result<usize, Refusal>
+#[tactic(auto, unfolding(crate::specs::Plan::plan_file))]
+pub fn write_plan(
+    plan: PlanFigures,
+    list: &[BucketRecord],
+    bytes: &mut [u8],
+) -> Result<usize, Refusal>
     ensures result_value { says result ≡ on_figures length (write_plan (length bytes.old) plan list.now) }
     ensures bytes_after { bytes.new ≡ filled (write_plan (length bytes.old) plan list.now) bytes.old }
 {

@@ -14,7 +14,7 @@ use Rattle.meter.specs.declared.meters.Meter.{Meter}
 use Rattle.meter.specs.Meter.{meter_run}
 use Rattle.meter.specs.MeterLaws.{Sound}
 use Rattle.record_list.specs.Held.{no_record}
-use Rattle.record_list.specs.PartLaws.{Begins, first_begins, next_begins, rest, rest_next, rest_none}
+use Rattle.record_list.specs.PartLaws.{Begins, first_begins, next_begins, rest_next, rest_none}
 use Rattle.recording.specs.declared.metering.MeterTotals.{MeterTotals}
 use Rattle.recording.specs.Recording.{meters_of, totals_of}
 
@@ -63,34 +63,34 @@ completed-more : (t : MeterTotals) (m : Meter) (a : Answer (List Meter)) → com
 completed-more t m (figures ms) = ap figures (plus-more t m ms)
 completed-more t m (refused n) = refl
 
-module _ (f : Factor) (ds : List ℕ) (k : ℕ) (records : Cutting) where
+module _ (f : Factor) (ds : List ℕ) (records : Cutting) where
   abbrev whole : Answer MeterTotals
-  whole = on_figures totals_of (meters_of f ds (take k records))
+  whole = on_figures totals_of (meters_of f ds records)
 
-  -- i of the first k runs are metered, and the next begins at `start`.
+  -- i of the runs are metered, and the next begins at `start`.
   pub record Metering (t : MeterTotals) (start i : ℕ) : Type 0 where
     pub few : Few i t
-    pub begins : Begins k records ds start i
-    pub is : completed t (meters_of f (drop start ds) (rest k records i)) ≡ whole
+    pub begins : Begins records ds start i
+    pub is : completed t (meters_of f (drop start ds) (drop i records)) ≡ whole
 
-  pub none_metered : total run_length (take k records) ≡ length ds → Metering none 0 0
+  pub none_metered : total run_length records ≡ length ds → Metering none 0 0
   none_metered e =
       record {
         few = record { sents = omega arith; overs = omega arith; losts = omega arith; helds = omega arith };
-        begins = first_begins k records ds e;
-        is = completed_none (meters_of f ds (take k records));
+        begins = first_begins records ds e;
+        is = completed_none (meters_of f ds records);
       }
 
   module _ {t : MeterTotals} {start i : ℕ} (s : Metering t start i) where
-    module _ (fits : k ≤ length records) (l : i < k) where
+    module _ (l : i < length records) where
       abbrev this : BucketRecord
       this = get_or records i no_record
 
-      left : rest k records i ≡ this ∷ rest k records (i + 1)
-      left = rest_next k records fits i l
+      left : drop i records ≡ this ∷ drop (i + 1) records
+      left = rest_next records i l
 
       abbrev onward : Answer Meter → Answer MeterTotals
-      onward a = completed t (and_then a (λ m. on_figures (m ∷◌) (meters_of f (drop (run_length this) (drop start ds)) (rest k records (i + 1)))))
+      onward a = completed t (and_then a (λ m. on_figures (m ∷◌) (meters_of f (drop (run_length this) (drop start ds)) (drop (i + 1) records))))
 
       next : whole ≡ onward (meter_run this.bucket f (take (run_length this) (drop start ds)))
       unfolding meters_of
@@ -110,19 +110,19 @@ module _ (f : Factor) (ds : List ℕ) (k : ℕ) (records : Cutting) where
                 losts = omega (arith, s.few.losts, o.totals.losts);
                 helds = omega (arith, s.few.helds, o.totals.holds, o.fresh.bucket.depths);
               };
-              begins = next_begins k records ds start i s.begins fits l;
+              begins = next_begins records ds start i s.begins l;
               is =
-                  ap (λ (ys : List ℕ). completed (added t m) (meters_of f ys (rest k records (i + 1)))) (sym (drop-drop (run_length this) start ds))
-                  ∙ sym (completed-more t m (meters_of f (drop (run_length this) (drop start ds)) (rest k records (i + 1))))
+                  ap (λ (ys : List ℕ). completed (added t m) (meters_of f ys (drop (i + 1) records))) (sym (drop-drop (run_length this) start ds))
+                  ∙ sym (completed-more t m (meters_of f (drop (run_length this) (drop start ds)) (drop (i + 1) records)))
                   ∙ sym (next ∙ ap onward (sym e ∙ g));
             }
 
         pub one_metered : (m : Meter) → a ≡ figures m → Sound m → (t' : MeterTotals) → t' ≡ added t m → Metering t' (start + run_length this) (i + 1)
         one_metered m g o t' h = subst (λ (u : MeterTotals). Metering u (start + run_length this) (i + 1)) (sym h) (metered_next m g o)
 
-    pub all_metered : k ≤ i → figures t ≡ whole
+    pub all_metered : length records ≤ i → figures t ≡ whole
     unfolding meters_of
     all_metered l =
         ap figures (sym (plus_none t))
-        ∙ ap (λ (xs : Cutting). completed t (meters_of f (drop start ds) xs)) (sym (rest_none k records i l))
+        ∙ ap (λ (xs : Cutting). completed t (meters_of f (drop start ds) xs)) (sym (rest_none records i l))
         ∙ s.is

@@ -6,11 +6,11 @@ use Rattle.terms.specs.Answer.{Answer, figures, refused, weigh, on_figures, and_
 use Rattle.terms.specs.Ranges.{factor_ok}
 use Rattle.terms.specs.Records.{Cutting, run_length, total}
 use Rattle.terms.specs.Refusals.{number_of}
-use Rattle.record_list.specs.Held.{held}
 use Rattle.meter.specs.declared.meters.Meter.{Meter}
 use Rattle.meter.specs.Meter.{meter_run}
 use Rattle.plan_file.specs.declared.answers.PlanFigures.{PlanFigures}
-use Rattle.plan_file.specs.Plan.{Recorded, read_plan}
+use Rattle.plan_file.specs.declared.answers.Recorded.{Recorded}
+use Rattle.plan_file.specs.Plan.{read_plan}
 use Rattle.recording.specs.declared.metering.MeterTotals.{MeterTotals}
 use Rattle.recording.specs.declared.recorded.Booking.{Booking}
 use Rattle.recording.specs.declared.recorded.BookingRecords.{BookingRecords}
@@ -54,6 +54,6 @@ booking_of x =
       meters = totals_of x.meters;
     }
 
--- That booking, and at the front of an array the records read back.
+-- That booking, with the records read back.
 abbrev pub booked : Recording → BookingRecords
-booked x = record { booking = booking_of x; records = held (figures x.plan.buckets) }
+booked x = record { booking = booking_of x; records = x.plan.buckets }

@@ -18,12 +18,11 @@ use Rattle.meter.specs.declared.meters.Meter.{Meter}
 use Rattle.meter.specs.Meter.{meter_on}
 use Rattle.meter.specs.MeterRuns.{run-metered}
 use Rattle.plan_file.specs.declared.answers.PlanFigures.{PlanFigures}
-use Rattle.plan_file.specs.declared.answers.PlanRecords.{PlanRecords}
-use Rattle.plan_file.specs.Plan.{Recorded, in_array, plan_file, read_plan}
+use Rattle.plan_file.specs.declared.answers.Recorded.{Recorded}
+use Rattle.plan_file.specs.Plan.{figures_in, read_plan, write_plan}
 use Rattle.plan_file.specs.PlanLaws.{file-read}
 use Rattle.plan_file.specs.PlanRules.{CountsRange, WriteRules, write_rules}
 use Rattle.record_list.specs.Held.{no_record}
-use Rattle.record_list.specs.HeldLaws.{held-records}
 use Rattle.recording.specs.declared.recorded.BookingRecords.{BookingRecords}
 use Rattle.recording.specs.declared.metering.MeterTotals.{MeterTotals}
 use Rattle.recording.specs.Recording.{Recording, written, read_back, meters_of, totals_of, recording, booked}
@@ -46,13 +45,13 @@ meters_run f r ds d l (x ∷ xs) h =
     let rest = meters_run f r (drop n ds) (demands-drop n ds d) (omega (arith, length-drop n ds)) xs (λ i k. h (suc i) (omega arith)) in
     (meter_on x.bucket f (take n ds) ∷ rest.0, rw (m, rest.1) refl)
 
-module _ (x : PlanFigures) (f : Factor) (ds : List ℕ) (room : ℕ) (records : Cutting) (size : length records ≡ trace_limit) (bytes : List ℕ) (space : ℕ) where
+module _ (x : PlanFigures) (f : Factor) (ds : List ℕ) (list : Cutting) (bytes : List ℕ) (space : ℕ) where
   -- the records that are written
   abbrev xs : Cutting
-  xs = take x.buckets records
+  xs = take x.buckets list
 
   abbrev writing : Answer (List ℕ)
-  writing = plan_file room (length bytes) x xs
+  writing = write_plan (length bytes) x list
 
   abbrev file : Answer (List ℕ)
   file = written space f x writing
@@ -96,40 +95,34 @@ module _ (x : PlanFigures) (f : Factor) (ds : List ℕ) (room : ℕ) (records : 
         written-front : writing ≡ figures front
         written-front = fills_front writing bytes bytes' n e b
 
-        rules : WriteRules room (length bytes) x xs front
-        rules = write_rules room (length bytes) x xs front written-front
+        rules : WriteRules (length list) (length bytes) x xs front
+        rules = write_rules (length list) (length bytes) x xs front written-front
 
         count : length xs ≡ x.buckets
-        count = length-take-le x.buckets records (omega (arith, size, rules.counts.few, rules.counts.periods.few))
+        count = length-take-le x.buckets list rules.list
 
         abbrev plan : Recorded
         plan = record { periods = x.periods; cost = x.cost; buckets = xs }
 
         -- what was written is read back
         reads-front : read_plan space front ≡ figures plan
-        reads-front = file-read room (length bytes) x xs front count written-front space (leb-true _ _ h)
+        reads-front = file-read (length list) (length bytes) x xs front count written-front space (leb-true _ _ h)
 
-        pub read_taken : (m : ℕ) → refused m ≡ on_figures in_array (read_plan space front) → ⊥
-        read_taken m g = figures-refused (sym (g ∙ ap (on_figures in_array) reads-front))
+        pub read_taken : (m : ℕ) → refused m ≡ read_plan space front → ⊥
+        read_taken m g = figures-refused (sym (g ∙ reads-front))
 
-        module _ (back : PlanRecords) (g : figures back ≡ on_figures in_array (read_plan space front)) where
-          back_is : back ≡ in_array plan
-          back_is = same-figures (g ∙ ap (on_figures in_array) reads-front)
+        module _ (back : Recorded) (g : figures back ≡ read_plan space front) where
+          back_is : back ≡ plan
+          back_is = same-figures (g ∙ reads-front)
 
-          same_count : back.figures.buckets ≡ length xs
-          same_count = ap (λ (z : PlanRecords). z.figures.buckets) back_is
-
-          abbrev backs : Cutting
-          backs = take back.figures.buckets back.records
-
-          back-records : backs ≡ xs
-          back-records = held-records (figures xs) back.records xs back.figures.buckets (ap (λ (z : PlanRecords). z.records) back_is) refl same_count
+          back-records : back.buckets ≡ xs
+          back-records = ap (λ (z : Recorded). z.buckets) back_is
 
           module _ (q : x.periods ≡ length ds) where
             -- so the records read can be metered on a trace of T periods
-            pub back_ready : CountsRange (length ds) back.figures.buckets × (total run_length backs ≡ length ds)
+            pub back_ready : CountsRange (length ds) (length back.buckets) × (total run_length back.buckets ≡ length ds)
             back_ready = (
-              subst (λ (T : ℕ). CountsRange T back.figures.buckets) q (subst (CountsRange x.periods) (sym (same_count ∙ count)) rules.counts),
+              subst (λ (T : ℕ). CountsRange T (length back.buckets)) q (subst (CountsRange x.periods) (sym (ap length back-records ∙ count)) rules.counts),
               ap (total run_length) back-records ∙ rules.records.sum ∙ q,
             )
 
@@ -147,19 +140,19 @@ module _ (x : PlanFigures) (f : Factor) (ds : List ℕ) (room : ℕ) (records : 
                   ∙ sym (then_figures (read_plan space front) _ reads-front)
                   ∙ ap (on_figures (λ ms. record { file = front; plan = plan; meters = ms })) metered.1
 
-              totals-are : on_figures totals_of (meters_of f ds backs) ≡ figures (totals_of metered.0)
+              totals-are : on_figures totals_of (meters_of f ds back.buckets) ≡ figures (totals_of metered.0)
               totals-are = ap (λ (ys : Cutting). on_figures totals_of (meters_of f ds ys)) back-records ∙ ap (on_figures totals_of) metered.1
 
-              pub meters_taken : (m : ℕ) → refused m ≡ on_figures totals_of (meters_of f ds backs) → ⊥
+              pub meters_taken : (m : ℕ) → refused m ≡ on_figures totals_of (meters_of f ds back.buckets) → ⊥
               meters_taken m h = figures-refused (sym (h ∙ totals-are))
 
-              pub plan-metered : (t : MeterTotals) → figures t ≡ on_figures totals_of (meters_of f ds backs)
-                  → Records bytes' (figures (record { booking = record { plan = back.figures; length = n; meters = t }; records = back.records }))
+              pub plan-metered : (t : MeterTotals) → figures t ≡ on_figures totals_of (meters_of f ds back.buckets)
+                  → Records bytes' (figures (record { booking = record { plan = figures_in back; length = n; meters = t }; records = back.buckets }))
               plan-metered t h =
-                  let with : PlanRecords → ℕ → MeterTotals → Answer BookingRecords = λ z m u.
-                  figures (record { booking = record { plan = z.figures; length = m; meters = u }; records = z.records }) in
+                  let with : Recorded → ℕ → MeterTotals → Answer BookingRecords = λ z m u.
+                  figures (record { booking = record { plan = figures_in z; length = m; meters = u }; records = z.buckets }) in
                   let e : with back n t ≡ figures (booked recorded) =
-                  ap₂ (λ (z : PlanRecords) (m : ℕ). with z m t) back_is (sym (front-count writing bytes bytes' n e b))
-                  ∙ ap (with (in_array plan) (length front)) (same-figures (h ∙ totals-are)) in
+                  ap₂ (λ (z : Recorded) (m : ℕ). with z m t) back_is (sym (front-count writing bytes bytes' n e b))
+                  ∙ ap (with plan (length front)) (same-figures (h ∙ totals-are)) in
                   subst (Records bytes') (sym e)
                   (records_as (figures recorded) recorded_so bytes' (b ∙ ap (λ (a : Answer (List ℕ)). filled a bytes) written-front))

@@ -1,6 +1,6 @@
 // The meters of a recorded plan, run by run. Public only for this crate's calls, which show what is
 // required.
-ghost use Rattle.std.specs.Prelude.{◌≡◌, length, take};
+ghost use Rattle.std.specs.Prelude.{◌≡◌, length};
 ghost use Rattle.terms.specs.Answer.{on_figures};
 ghost use Rattle.terms.specs.Limits.{trace_limit};
 ghost use Rattle.terms.specs.Records.{run_length, total};
@@ -11,7 +11,6 @@ ghost use Rattle.recording.specs.Recording.{meters_of, totals_of};
 ghost use Rattle.recording.specs.MeteringLaws.{added, Few};
 
 use meter::{Meter, meter_run};
-use terms::limits::TRACE_LIMIT;
 use terms::{BucketRecord, Factor, Refusal};
 
 // What the meters of the runs ended with, summed over the runs. The tokens held at the end of a run
@@ -41,16 +40,15 @@ impl MeterTotals {
 }
 
 // Opens a meter on each recorded bucket with the factor and offers it its run of the trace, first
-// period to last. The records stand at the front of the array.
+// period to last.
 pub fn meter_runs(
     trace: &[u16],
     factor: Factor,
-    buckets: usize,
-    records: [BucketRecord; TRACE_LIMIT],
+    records: &[BucketRecord],
 ) -> Result<MeterTotals, Refusal>
-    requires counts_range { CountsRange (length trace.now) buckets }
-    requires records_value { total run_length (take buckets records) ≡ length trace.now }
-    ensures { says result ≡ on_figures totals_of (meters_of factor trace.now (take buckets records)) }
+    requires counts_range { CountsRange (length trace.now) (length records.now) }
+    requires runs_sum { total run_length records.now ≡ length trace.now }
+    ensures { says result ≡ on_figures totals_of (meters_of factor trace.now records.now) }
 {
     let mut totals = MeterTotals {
         sent: 0,
@@ -59,14 +57,11 @@ pub fn meter_runs(
         held: 0,
     };
     let mut start = 0;
-    let mut i = 0;
-    while i < buckets {
-        let x = records[i];
+    for &x in records {
         let end = start + x.periods as usize;
         let meter = meter_run(x.bucket, factor, &trace[start..end])?;
         totals = totals.with(meter);
         start = end;
-        i += 1;
     }
     Ok(totals)
 }

@@ -14,7 +14,6 @@ pub use file_answers::{fill, filled_of, order, plan, tariff};
 pub use file_bytes::{hex_lines, written};
 pub use lent_lists::{kept, list};
 use terms::{BucketRecord, Depth, Refusal};
-use text::figures::magnitude;
 
 // Words as they stand.
 pub fn words(rt: &impl Print, text: &[u8]) {
@@ -34,12 +33,7 @@ pub fn figure(rt: &impl Print, name: &[u8], n: u64) {
 
 // A space and a signed number.
 pub fn signed(rt: &impl Print, z: i64) {
-    if z < 0 {
-        let n = magnitude(z);
-        let _ = print!(rt; " -{n}");
-    } else {
-        number(rt, magnitude(z));
-    }
+    let _ = print!(rt; " {z}");
 }
 
 pub fn end_line(rt: &impl Print) {

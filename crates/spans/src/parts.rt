@@ -1,7 +1,7 @@
 // A walk through a trace at one rate, with the parts of the trace that set its needs. A part needs its
 // demands less the rate for each of its periods, so its length tells what it needs at every other rate.
 // Public only for the crates above, which show what each function requires.
-ghost use Rattle.std.specs.Prelude.{◌-◌, ◌≤◌, cond, ◌≡◌};
+ghost use Rattle.std.specs.Prelude.{◌-◌, ◌≤◌, ◌≡◌};
 ghost use Rattle.terms.specs.Limits.{rate_limit, trace_limit};
 ghost use Rattle.spans.specs.Parts.{Grown, PartsRange, no_parts};
 
@@ -42,19 +42,27 @@ impl Parts {
         let old = self.walk;
         let walk = old.push(rate, demand);
         let periods = self.periods + 1;
-        let ending = either(walk.ending == 0, 0, self.ending + 1);
+        let ending = if walk.ending == 0 {
+            0
+        } else {
+            self.ending + 1
+        };
+        let opening = if old.opening < walk.opening {
+            periods
+        } else {
+            self.opening
+        };
+        let stretch = if old.stretch < walk.stretch {
+            ending
+        } else {
+            self.stretch
+        };
         Parts {
             walk,
             periods,
-            opening: either(old.opening < walk.opening, periods, self.opening),
+            opening,
             ending,
-            stretch: either(old.stretch < walk.stretch, ending, self.stretch),
+            stretch,
         }
     }
-}
-
-fn either(first: bool, x: u32, y: u32) -> u32
-    ensures { result ≡ cond first x y }
-{
-    if first { x } else { y }
 }

@@ -42,13 +42,13 @@ fn raised(span: Span, b: u64, c: u64, e: u64) -> Span
     if c + e * (span.hi as u64) < b {
         return Span {
             lo: span.hi,
-            hi: span.hi,
+            ..span
         };
     }
-    let first = (b - c + (e - 1)) / e;
+    let first = (b - c).div_ceil(e);
     Span {
         lo: first as u32,
-        hi: span.hi,
+        ..span
     }
 }
 
@@ -65,14 +65,14 @@ fn lowered(span: Span, b: u64, c: u64, e: u64) -> Span
     }
     if c < e * span.lo as u64 + b {
         return Span {
-            lo: span.lo,
             hi: span.lo,
+            ..span
         };
     }
     let last = (c - b) / e;
     Span {
-        lo: span.lo,
         hi: last as u32 + 1,
+        ..span
     }
 }
 
@@ -82,13 +82,11 @@ pub fn without(span: Span, rate: Rate) -> Span
     ensures kept { Kept (Other rate.0) span result }
     ensures gone { Gone rate.0 result }
 {
-    if span.lo < span.hi {
-        if span.lo == rate.0 {
-            return Span {
-                lo: rate.0 + 1,
-                hi: span.hi,
-            };
-        }
+    if span.lo < span.hi && span.lo == rate.0 {
+        return Span {
+            lo: rate.0 + 1,
+            ..span
+        };
     }
     span
 }

@@ -1,11 +1,10 @@
 -- A text that fits its room fills the front of what is lent; another is refused. A text whose length is not known
 -- beforehand stands ready in an array of its own in between.
 -- Assumes nothing.
-use Rattle.std.specs.Prelude.{ℕ, ◌≤◌, ◌<◌, ◌≡◌, refl, Bool, List, length, replicate, take}
+use Rattle.std.specs.Prelude.{ℕ, ◌≤◌, ◌<◌, ◌≡◌, Bool, List, length, replicate, take}
 use Rattle.std.proofs.Common.{arith, sym, ap, subst, le-leb, length-take-le}
 use Rattle.std.proofs.lemmas.Bool.{lt-leb}
 use Rattle.std.proofs.lemmas.List.{length-replicate}
-use Rattle.std.proofs.lemmas.List.Edits.{sets}
 use Rattle.terms.specs.Answer.{Answer, figures, refused, weigh}
 use Rattle.encoding.specs.FillLaws.{Fills, fill_refused, fill_stored}
 use Rattle.text.specs.Fitted.{fitted}
@@ -18,9 +17,6 @@ module _ (ready old : List ℕ) where
   module _ (h : length ready ≤ length old) (new : List ℕ) where
     fits : fitted (length old) ready ≡ figures ready
     fits = ap (λ (b : Bool). weigh b 6 (figures ready)) (le-leb (length ready) (length old) h)
-
-    pub stored_ready : new ≡ sets old 0 ready → Fills (fitted (length old) ready) old (figures (length ready)) new
-    stored_ready e = fill_stored (fitted (length old) ready) old ready new (length ready) fits refl h e
 
     -- written into the lent text directly
     pub put_fills : (n : ℕ) → Puts old 0 ready new n → Fills (fitted (length old) ready) old (figures n) new

@@ -1,6 +1,6 @@
 -- A number's digits: how many there are, that they are its last ones, and that they name it.
 -- Assumes nothing.
-use Rattle.std.specs.Prelude.{ℕ, zero, suc, ◌+◌, ◌/◌, ◌%◌, ◌^◌, ◌≤◌, ◌<◌, ◌≡◌, refl, Bool, true, false, cond, List, [], ◌∷◌, ◌++◌, ltb}
+use Rattle.std.specs.Prelude.{ℕ, max, zero, suc, ◌+◌, ◌*◌, ◌/◌, ◌%◌, ◌^◌, ◌≤◌, ◌<◌, ◌≡◌, refl, Bool, true, false, cond, List, [], ◌∷◌, ◌++◌, ltb}
 use Rattle.std.proofs.Common.{arith, zero-lt-suc, div-lt_iff_lt-mul, mod-eq_of_lt, pow-suc, subst, ◌∙◌, ltb-true, ltb-false, lt-ltb, le-ltb, length-append}
 use Rattle.std.proofs.Math.Path.{sym, ap}
 use Rattle.std.proofs.Math.ListN.{length, set, length-set}
@@ -76,32 +76,31 @@ numeral-short (suc more) (suc k) n h = go (numeral-short more k (n / 10) (tenth_
     go rest false e =
         omega (arith, rest, ap length (numeral_large more n (ltb-false n 10 e)), length_one (numeral_in more (n / 10)) (digit (n % 10)))
 
--- Counting them: `rest` is left after dividing by 10 as often as `count` says, less one.
-pub record Counting (n count rest : ℕ) : Type 0 where
-  pub more : ℕ
-  pub counted : count + more ≡ 20
-  pub below : rest < 10 ^ suc more
-  pub same : count + length (numeral_in more rest) ≡ suc (length (numeral n))
+power_some : (k : ℕ) → 0 < 10 ^ k
+power_some zero = omega arith
+power_some (suc k) = omega (arith, pow-suc 10 k, power_some k)
 
-pub none_counted : (n : ℕ) → n < 10 ^ 20 → Counting n 1 n
-none_counted n h = record { more = 19; counted = refl; below = h; same = omega arith }
-
-pub one_counted : (n count rest : ℕ) → Counting n count rest → 10 ≤ rest → Counting n (count + 1) (rest / 10)
-one_counted n count rest c h = go c.more c.counted c.below c.same
+pub numeral-long : (more k n : ℕ) → n < 10 ^ suc more → 10 ^ k ≤ n → k < length (numeral_in more n)
+unfolding numeral_in
+numeral-long zero zero n h l = omega arith
+numeral-long zero (suc k) n h l = absurd (omega (arith, pow-suc 10 k, power_some k))
+numeral-long (suc more) zero n h l = go (ltb n 10) refl
   where
-    go : (more : ℕ) → count + more ≡ 20 → rest < 10 ^ suc more → count + length (numeral_in more rest) ≡ suc (length (numeral n)) → Counting n (count + 1) (rest / 10)
-    go zero e l s = absurd (omega (arith, h, l))
-    go (suc more) e l s =
-        record {
-          more = more;
-          counted = omega (arith, e);
-          below = tenth_below (suc more) rest l;
-          same =
-              omega (arith, s, ap length (numeral_large more rest h), length_one (numeral_in more (rest / 10)) (digit (rest % 10)));
-        }
+    go : (b : Bool) → ltb n 10 ≡ b → 0 < length (numeral_in (suc more) n)
+    go true e = omega (arith, ap length (numeral-small (suc more) n (ltb-true n 10 e)))
+    go false e = omega (arith, ap length (numeral_large more n (ltb-false n 10 e)), length_one (numeral_in more (n / 10)) (digit (n % 10)))
+numeral-long (suc more) (suc k) n h l =
+    let e = pow-suc 10 k in
+    let rest = numeral-long more k (n / 10) (tenth_below (suc more) n h) (omega (arith, e, l)) in
+    omega (arith, rest, ap length (numeral_large more n (omega (arith, e, power_some k, l))), length_one (numeral_in more (n / 10)) (digit (n % 10)))
 
-pub all_counted : (n count rest : ℕ) → Counting n count rest → rest < 10 → count ≡ length (numeral n)
-all_counted n count rest c h = omega (arith, c.same, ap length (numeral-small c.more rest h))
+-- A number has one digit more than the power of 10 that it reaches; 0 has as many as 1.
+pub numeral_places : (n k : ℕ) → n < 10 ^ 20 → 10 ^ k ≤ max n 1 → max n 1 < 10 * 10 ^ k → k + 1 ≡ length (numeral n)
+numeral_places zero k h l m =
+    omega (arith, ap length (numeral-small 19 0 (omega arith)), ap length (numeral-small 19 1 (omega arith)), numeral-long 19 k 1 (omega arith) l)
+numeral_places (suc n) k h l m =
+    let e : max (suc n) 1 ≡ suc n = omega arith in
+    omega (arith, numeral-short 19 k (suc n) (omega (arith, m, e, pow-suc 10 k)), numeral-long 19 k (suc n) h (omega (arith, l, e)))
 
 -- ---- Digits stored from the last to the first
 
@@ -118,9 +117,6 @@ pub record Spelling (old : List ℕ) (at count n : ℕ) (new : List ℕ) (k rest
   pub kept : length new ≡ length old
   pub few : k ≤ count
   pub is : sets new at (digits k rest) ≡ sets old at (digits count n)
-
-pub none_spelled : (old : List ℕ) (at count n : ℕ) → Spelling old at count n old count n
-none_spelled old at count n = record { kept = refl; few = omega arith; is = refl }
 
 module _ (old : List ℕ) (at count n : ℕ) (new : List ℕ) (rest : ℕ) where
   pub one_spelled : (k j : ℕ) → k ≡ suc j → Spelling old at count n new k rest → Spelling old at count n (set new (at + j) (digit (rest % 10))) j (rest / 10)

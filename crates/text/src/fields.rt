@@ -30,11 +30,8 @@ pub fn put_word(text: &mut [u8], at: usize, word: &[u8], after: u8) -> usize
     requires { at + length (ended word.now after) ≤ length text.old }
     ensures { Puts text.old at (ended word.now after) text.new result }
 {
-    let mut i = 0;
-    while i < word.len() {
-        text[at + i] = word[i];
-        i += 1;
-    }
-    text[at + i] = after;
-    at + i + 1
+    let end = at + word.len();
+    text[at..end].copy_from_slice(word);
+    text[end] = after;
+    end + 1
 }

@@ -1,6 +1,6 @@
 // Signed figures in megabits, stored in a text. Public only for this crate's calls and the crates
 // above, which show what is required.
-ghost use Rattle.std.specs.Prelude.{◌+◌, ◌≤◌, ◌≡◌, nat_abs, length};
+ghost use Rattle.std.specs.Prelude.{◌+◌, ◌≤◌, length};
 ghost use Rattle.text.specs.Megabits.{megabits, sign};
 ghost use Rattle.text.specs.PutLaws.{Puts};
 
@@ -8,13 +8,6 @@ use crate::numerals::{put_digits, put_number};
 
 // The digits behind the point: one megabit is 1,000 kilobits.
 const PLACES: usize = 3;
-
-// A signed number without its sign.
-pub fn magnitude(z: i64) -> u64
-    ensures { result ≡ nat_abs z }
-{
-    if z < 0 { !z as u64 + 1 } else { z as u64 }
-}
 
 // Stores a minus sign where the figure is below 0.
 fn put_sign(text: &mut [u8], at: usize, figure: i64) -> usize
@@ -34,7 +27,7 @@ pub fn put_megabits(text: &mut [u8], at: usize, figure: i64) -> usize
     requires { at + length (megabits figure) ≤ length text.old }
     ensures { Puts text.old at (megabits figure) text.new result }
 {
-    let kilobits = magnitude(figure);
+    let kilobits = figure.unsigned_abs();
     let whole = put_sign(text, at, figure);
     let thousandths = put_number(text, whole, kilobits / 1000, b'.');
     put_digits(text, thousandths, PLACES, kilobits);

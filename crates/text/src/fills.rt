@@ -15,10 +15,6 @@ pub fn fill(ready: &[u8], text: &mut [u8]) -> Result<usize, Refusal>
     if text.len() < ready.len() {
         return Err(Refusal::List);
     }
-    let mut i = 0;
-    while i < ready.len() {
-        text[i] = ready[i];
-        i += 1;
-    }
+    text[..ready.len()].copy_from_slice(ready);
     Ok(ready.len())
 }

@@ -9,13 +9,7 @@ ghost use Rattle.text.specs.PutLaws.{Puts};
 pub fn places(n: u64) -> usize
     ensures { result ≡ length (numeral n) }
 {
-    let mut count = 1;
-    let mut rest = n;
-    while 10 <= rest {
-        rest /= 10;
-        count += 1;
-    }
-    count
+    n.max(1).ilog10() as usize + 1
 }
 
 // Stores the last `count` digits of a number from `at` on, the lowest first.
@@ -24,9 +18,7 @@ pub fn put_digits(text: &mut [u8], at: usize, count: usize, n: u64)
     ensures { text.new ≡ sets text.old at (digits count n) }
 {
     let mut rest = n;
-    let mut k = count;
-    while 0 < k {
-        k -= 1;
+    for k in (0..count).rev() {
         text[at + k] = 48 + (rest % 10) as u8;
         rest /= 10;
     }
@@ -39,6 +31,7 @@ pub fn put_number(text: &mut [u8], at: usize, n: u64, after: u8) -> usize
 {
     let count = places(n);
     put_digits(text, at, count, n);
-    text[at + count] = after;
-    at + count + 1
+    let end = at + count;
+    text[end] = after;
+    end + 1
 }

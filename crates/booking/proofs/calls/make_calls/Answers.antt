@@ -1,21 +1,16 @@
 -- The plan is recorded as planning left it; a refusal to plan ends the list.
-use mathlib.Core.Path.{sym, ap}
-use Rattle.terms.specs.Refusals.{says}
-use Rattle.planning.specs.CallLaws.{trace-count, trace-inside}
-use Rattle.booking.specs.CallLaws.{planning-refused, plan-recorded}
+use Rattle.std.proofs.lemmas.Result.{err_from_is_err_and}
+use Rattle.terms.specs.Answer.{figures, refused}
+use Rattle.booking.specs.CallLaws.{plan-recorded}
 use Rattle.booking.proofs.calls.make_calls.Goals as goal
 
-pub returns-in-Err : goal.returns-in-Err
-returns-in-Err c = planning-refused _ _ _ _ _ c.plan_order-planned.result c.plan_order-planned.ensures _ (ap says c.in-Err.is)
-
-pub slice_bounds-demands-end : goal.slice_bounds-demands-end
-slice_bounds-demands-end c = trace-inside _ _ _ _ c.plan_order-planned.ensures _ (ap says c.in-Ok.is)
-
-pub slice_bounds-record_plan-end : goal.slice_bounds-record_plan-end
-slice_bounds-record_plan-end c = sym (trace-count _ _ _ _ c.plan_order-planned.ensures _ (ap says c.in-Ok.is))
-
-pub record_plan-recorded-requires : goal.record_plan-recorded-requires
-record_plan-recorded-requires c = sym (trace-count _ _ _ _ c.plan_order-planned.ensures _ (ap says c.in-Ok.is))
+pub returns-in_err-recorded : goal.returns-in_err-recorded
+returns-in_err-recorded c =
+    let p = err_from_is_err_and c.from_residual-in_err-recorded.result c.from_residual-in_err-recorded.ensures.1 in
+    let made = rw (c.order.ensures, c.order-2.ensures, c.as_slice.ensures.items, c.trace.ensures) at c.in_err-recorded.ensures in
+    rw (p.1, p.2) (plan-recorded _ _ _ _ _ _ c.in_ok-planned.ensures _ (refused _) made)
 
 pub returns : goal.returns
-returns c = plan-recorded _ _ _ _ _ c.plan_order-planned.result c.plan_order-planned.ensures _ (ap says c.in-Ok.is) _ c.record_plan-recorded.result c.record_plan-recorded.ensures
+returns c =
+    let made = rw (c.order.ensures, c.order-2.ensures, c.as_slice.ensures.items, c.trace.ensures) at c.in_ok-recorded.ensures in
+    plan-recorded _ _ _ _ _ _ c.in_ok-planned.ensures _ (figures _) made

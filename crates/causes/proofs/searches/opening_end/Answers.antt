@@ -5,10 +5,9 @@ use native.Mathlib.Nat.{mul-le-mul, mul-suc, sub-zero}
 use native.Mathlib.Numerals.{add-one}
 use mathlib.Core.Path.{◌≡◌, refl, sym, ap, ◌∙◌}
 use mathlib.Core.List.{List}
-use borrow.Author.Rules.{rules}
 use lib.ListN.{length, get_or, take}
 use lib.Seq.{length-take-le, take-suc}
-use Rattle.terms.specs.Answer.{Answer, figures, refused, figure_or}
+use Rattle.terms.specs.Answer.{figures, refused}
 use Rattle.terms.specs.Limits.{demand_limit, depth_limit, rate_limit, trace_limit}
 use Rattle.terms.specs.Records.{total}
 use Rattle.bucket.specs.Laws.{demands-take}
@@ -67,20 +66,14 @@ end {r} {y} {ds} {i = i} k l = k.so_far ∙ from_none (λ v. short r y ds 1 v) (
 pub loop-i-init : goal.loop-i-init
 loop-i-init c = start _ _ _
 
-pub overflow_cast-demands : goal.overflow_cast-demands
-overflow_cast-demands c = omega (arith, c.shared_slice_known-1.given c.loop-i.i)
-
 pub overflow_add-demands : goal.overflow_add-demands
-overflow_add-demands c = omega (arith, demands_fit c.loop-i.invariant c.loop-i-test.true (record { each = λ i. omega (arith, c.shared_slice_known-1.given i) }) c.requires.periods_range.few)
-
-pub overflow_add-tokens : goal.overflow_add-tokens
-overflow_add-tokens c = omega (arith, tokens-fit c.loop-i.invariant c.loop-i-test.true c.requires.rate_le_rate_limit c.requires.tokens_le_depth_limit c.requires.periods_range.few)
+overflow_add-demands c = omega (arith, demands_fit c.loop-i.invariant c.loop-i-test.true (record { each = λ i. omega (arith, c.type_inv.trace i) }) c.requires.periods_range.few)
 
 pub returns-then-tokens-demands : goal.returns-then-tokens-demands
-returns-then-tokens-demands c = sym (ap (λ (a : Answer ℕ). figure_or a 0) (found c.loop-i.invariant c.loop-i-test.true c.if-tokens-demands.true))
+returns-then-tokens-demands c = sym (found c.loop-i.invariant c.loop-i-test.true c.if-tokens-demands.true)
 
 pub loop-i-preserved : goal.loop-i-preserved
 loop-i-preserved c = next c.loop-i.invariant c.loop-i-test.true c.if-tokens-demands.false
 
 pub returns : goal.returns
-returns c = sym (ap (λ (a : Answer ℕ). figure_or a 0) (end c.loop-i.invariant c.loop-i-test.false))
+returns c = sym (end c.loop-i.invariant c.loop-i-test.false)

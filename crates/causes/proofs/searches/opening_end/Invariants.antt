@@ -1,22 +1,10 @@
 -- After i turns no opening of i periods or fewer is short, and demands and tokens are those of the first i periods.
-use Prim.Native.Nat.{ℕ, ◌+◌, ◌-◌, ◌*◌, ◌≤◌, ◌<◌}
-use native.Mathlib.Omega.{arith}
-use native.Mathlib.Nat.{mul-le-mul, mul-suc, sub-zero}
-use native.Mathlib.Numerals.{add-one}
-use mathlib.Core.Path.{◌≡◌, refl, sym, ap, ◌∙◌}
+use Prim.Native.Nat.{ℕ, ◌+◌, ◌-◌, ◌*◌, ◌≤◌}
+use mathlib.Core.Path.{◌≡◌}
 use mathlib.Core.List.{List}
-use borrow.Author.Rules.{rules}
-use lib.ListN.{length, get_or, take}
-use lib.Seq.{length-take-le, take-suc}
-use Rattle.terms.specs.Answer.{Answer, figures, refused, figure_or}
-use Rattle.terms.specs.Limits.{demand_limit, depth_limit, rate_limit, trace_limit}
-use Rattle.terms.specs.Records.{total}
-use Rattle.bucket.specs.Laws.{demands-take}
-use Rattle.bucket.specs.Trace.{Demands}
+use lib.ListN.{length, take}
 use Rattle.depth.specs.Depth.{first_from}
-use Rattle.depth.specs.SearchLaws.{from_failed, from_none, from-passed}
 use Rattle.causes.specs.Cause.{demand_of, opening_end, short}
-use Rattle.causes.specs.PeriodNeedLaws.{demand_le, demand_more, sums-enough, sums-short}
 use Rattle.causes.proofs.searches.opening_end.Given as goal
 
 pub record Opened (r y : ℕ) (ds : List ℕ) (demands tokens i : ℕ) : Type 0 where
@@ -27,6 +15,3 @@ pub record Opened (r y : ℕ) (ds : List ℕ) (demands tokens i : ℕ) : Type 0 
 
 abbrev pub invariant-loop-i : goal.invariant-loop-i
 invariant-loop-i l = Opened l.rate.0 l.tokens-2 l.trace l.demands l.tokens l.i
-
-abbrev pub decreases-loop-i : goal.decreases-loop-i
-decreases-loop-i l = length l.trace - l.i

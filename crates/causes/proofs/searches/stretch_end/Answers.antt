@@ -5,13 +5,11 @@ use native.Mathlib.Numerals.{add-one}
 use mathlib.Core.Path.{◌≡◌, refl, sym, ap, ◌∙◌}
 use mathlib.Core.Bool.{Bool}
 use mathlib.Core.List.{List, [], ◌∷◌, ◌++◌}
-use borrow.Author.Rules.{rules}
 use borrow.Author.Tests.{lt-ltb, le-ltb}
 use lib.ListN.{length, get_or, take, drop}
 use lib.Seq.{drop-append-le, length-take-le, slice, slice_empty, take-suc}
 use Rattle.terms.specs.Answer.{Answer, figures, figure_or}
 use Rattle.depth.specs.declared.walk.Walk.{Walk}
-use Rattle.depth.specs.Depth.{first_from}
 use Rattle.depth.specs.SearchLaws.{from_failed, from_none, from-passed}
 use Rattle.depth.specs.Walk.{pushed, walk_of}
 use Rattle.depth.specs.WalkLaws.{walk_more}
@@ -56,25 +54,18 @@ module _ {r C : ℕ} {ds : List ℕ} {need last : ℕ} (k : Ended r C ds need la
         so_far = k.so_far ∙ from_failed test (last + 1) (length ds - last) (length ds - (last + 1)) (omega arith) (t ∙ le-ltb C _ (omega (arith, ends' new e)));
       }
 
-end : {r C : ℕ} {ds : List ℕ} {need last : ℕ} → Ended r C ds need last → length ds ≤ last → last ≡ figure_or (stretch_end r C ds) (length ds)
+end : {r C : ℕ} {ds : List ℕ} {need last : ℕ} → Ended r C ds need last → length ds ≤ last → length ds ≡ figure_or (stretch_end r C ds) (length ds)
 end {r} {C} {ds} {last = last} k l =
-    let e : last ≡ length ds = omega (arith, k.inside) in
-    e ∙ sym (ap (λ (a : Answer ℕ). figure_or a (length ds)) (k.so_far ∙ from_none (λ v. is_found (stretch_start r C ds v)) (last + 1) (length ds - last) (omega arith)))
+    sym (ap (λ (a : Answer ℕ). figure_or a (length ds)) (k.so_far ∙ from_none (λ v. is_found (stretch_start r C ds v)) (last + 1) (length ds - last) (omega arith)))
 
-pub loop-last-init : goal.loop-last-init
-loop-last-init c = start _ _ _ c.requires.periods_range.some
-
-pub overflow_cast-trace : goal.overflow_cast-trace
-overflow_cast-trace c = omega (arith, c.shared_slice_known-in-loop-last-1.given c.loop-last.last)
-
-pub overflow_add-need : goal.overflow_add-need
-overflow_add-need c = omega (arith, c.shared_slice_known-in-loop-last-1.given c.loop-last.last, c.loop-last.invariant.enough, c.requires.bucket_range.depths)
+pub loop-i-init : goal.loop-i-init
+loop-i-init c = start _ _ _ c.requires.periods_range.some
 
 pub returns-then-bucket-need : goal.returns-then-bucket-need
-returns-then-bucket-need c = sym (ap (λ (a : Answer ℕ). figure_or a (length c.args.trace.now)) (found c.loop-last.invariant c.loop-last-test.true _ c.saturating_sub-need.ensures c.if-bucket-need.true))
+returns-then-bucket-need c = sym (ap (λ (a : Answer ℕ). figure_or a (length c.args.trace.now)) (found c.loop-i.invariant c.loop-i-test.true _ c.saturating_sub-need.ensures c.if-bucket-need.true))
 
-pub loop-last-preserved : goal.loop-last-preserved
-loop-last-preserved c = next c.loop-last.invariant c.loop-last-test.true _ c.saturating_sub-need.ensures c.if-bucket-need.false
+pub loop-i-preserved : goal.loop-i-preserved
+loop-i-preserved c = next c.loop-i.invariant c.loop-i-test.true _ c.saturating_sub-need.ensures c.if-bucket-need.false
 
 pub returns : goal.returns
-returns c = end c.loop-last.invariant c.loop-last-test.false
+returns c = end c.loop-i.invariant c.loop-i-test.false

@@ -6,8 +6,6 @@ use native.Mathlib.Nat.{mul-le-mul, mul-suc, sub_self, mul-zero}
 use mathlib.Core.Path.{◌≡◌, sym, ap, ◌∙◌}
 use mathlib.Core.Bool.{Bool, true, false}
 use mathlib.Core.List.{List}
-use mathlib.Core.Logic.{⊎_elim}
-use borrow.Author.Rules.{rules}
 use lib.Dec.{ltb}
 use lib.ListN.{length, get_or}
 use lib.Seq.{length-slice, slice, slice-cons, slice_empty}
@@ -22,7 +20,6 @@ use Rattle.causes.specs.Cause.{demand_of, need_of, short, stretch_start}
 use Rattle.causes.specs.PeriodNeedLaws.{demand_le, sums-enough, sums-short}
 use Rattle.causes.proofs.searches.stretch_start.Invariants.{Started}
 use Rattle.causes.proofs.searches.stretch_start.Goals as goal
-use Rattle.causes.proofs.searches.stretch_start.Goals.{then-tokens-demands, else-tokens-demands}
 
 start : (r C : ℕ) (ds : List ℕ) (v : ℕ) → 1 ≤ v → Started r C ds v v 0 C v
 unfolding total
@@ -79,48 +76,38 @@ module _ {r C : ℕ} {ds : List ℕ} {v first demands tokens u : ℕ} (k : Start
   next : (new : ℕ) → new ≡ figure_or search-u v → Started r C ds v new demands' tokens' j
   next new e = record { some = omega arith; inside = omega (arith, k.inside); sums = sums'; gains = gains'; so_far = e }
 
-  hit : (new : ℕ) → tokens' < demands' → new ≡ u → Started r C ds v new demands' tokens' j
-  hit new h e =
-      let f = from-passed (λ m. short r C ds m v) (j + 1) (v - j) (omega (arith, k.inside)) (short-u true (sums-short r C demands' tokens' _ sums' gained h)) in
-      let g : new ≡ j + 1 = omega arith in
-      next new (g ∙ sym (ap (λ (a : Answer ℕ). figure_or a v) f))
+  hit : tokens' < demands' → Started r C ds v (j + 1) demands' tokens' j
+  hit h =
+      let e = short-u true (sums-short r C demands' tokens' _ sums' gained h) in
+      let f = from-passed (λ m. short r C ds m v) (j + 1) (v - j) (omega (arith, k.inside)) e in
+      next (j + 1) (sym (ap (λ (a : Answer ℕ). figure_or a v) f))
 
-  miss : (new : ℕ) → demands' ≤ tokens' → new ≡ first → Started r C ds v new demands' tokens' j
-  miss new h e =
+  miss : demands' ≤ tokens' → Started r C ds v first demands' tokens' j
+  miss h =
+      let e = short-u false (sums-enough r C demands' tokens' _ sums' gained h) in
       let f : search-u ≡ first_from (λ m. short r C ds m v) (v - u) (j + 1 + 1) =
-      from_failed (λ m. short r C ds m v) (j + 1) (v - j) (v - u) (omega (arith, k.inside)) (short-u false (sums-enough r C demands' tokens' _ sums' gained h)) in
+      from_failed (λ m. short r C ds m v) (j + 1) (v - j) (v - u) (omega (arith, k.inside)) e in
       let g : u + 1 ≡ j + 1 + 1 = omega arith in
-      next new (e ∙ k.so_far ∙ ap (λ (b : ℕ). figure_or (first_from (λ m. short r C ds m v) (v - u) b) v) g ∙ sym (ap (λ (a : Answer ℕ). figure_or a v) f))
+      next first (k.so_far ∙ rw (f, g))
 
 end : {r C : ℕ} {ds : List ℕ} {v first demands tokens u : ℕ} → Started r C ds v first demands tokens u → u ≤ 1 → first ≡ figure_or (stretch_start r C ds v) v
 end {r} {C} {ds} {v} {u = u} k l =
     let e : u ≡ 1 = omega (arith, k.some) in
     k.so_far ∙ ap (λ (m : ℕ). figure_or (first_from (λ n. short r C ds n v) (v - m) (m + 1)) v) e
 
-pub loop-u-init : goal.loop-u-init
-loop-u-init c = start _ _ _ _ c.requires.le_last
-
-pub offset_bounds-trace-u : goal.offset_bounds-trace-u
-offset_bounds-trace-u c = omega (arith, c.loop-u.invariant.inside, c.requires.last_in_bounds, c.requires.periods_range.few)
-
-pub bounds-trace-u : goal.bounds-trace-u
-bounds-trace-u c = omega (arith, c.loop-u-test.true, c.loop-u.invariant.inside, c.requires.last_in_bounds)
-
-pub overflow_cast-demands : goal.overflow_cast-demands
-overflow_cast-demands c = omega (arith, c.shared_slice_known-1.given (c.loop-u.u - 1))
+pub loop-i-init : goal.loop-i-init
+loop-i-init c = start _ _ _ _ c.requires.le_last
 
 pub overflow_add-demands : goal.overflow_add-demands
-overflow_add-demands c = omega (arith, demands_fit c.loop-u.invariant c.loop-u-test.true c.requires.last_in_bounds (record { each = λ i. omega (arith, c.shared_slice_known-1.given i) }) c.requires.periods_range.few)
-
-pub overflow_add-tokens : goal.overflow_add-tokens
-overflow_add-tokens c = omega (arith, tokens-fit c.loop-u.invariant c.loop-u-test.true c.requires.last_in_bounds c.requires.bucket_range.rates c.requires.bucket_range.depths c.requires.periods_range.few)
-
-pub loop-u-preserved : goal.loop-u-preserved
-loop-u-preserved c =
-    let k = c.loop-u.invariant in
-    let l = c.loop-u-test.true in
+overflow_add-demands c =
+    let demands : Demands c.args.trace.now = record { each = λ i. omega (arith, c.type_inv.trace i) } in
     let n = c.requires.last_in_bounds in
-    elim c.if-tokens-demands.branch [ then-tokens-demands w ↦ hit k l n _ w.if-tokens-demands.true w.first-is | else-tokens-demands w ↦ miss k l n _ w.if-tokens-demands.false w.first-is ]
+    omega (arith, demands_fit c.loop-i.invariant c.loop-i-test.true n demands c.requires.periods_range.few)
 
-pub returns : goal.returns
-returns c = end c.loop-u.invariant c.loop-u-test.false
+pub loop-i-preserved-then-tokens-demands : goal.loop-i-preserved-then-tokens-demands
+loop-i-preserved-then-tokens-demands c =
+    hit c.loop-i.invariant c.loop-i-test.true c.requires.last_in_bounds c.if-tokens-demands.true
+
+pub loop-i-preserved : goal.loop-i-preserved
+loop-i-preserved c =
+    miss c.loop-i.invariant c.loop-i-test.true c.requires.last_in_bounds c.if-tokens-demands.false

@@ -8,7 +8,7 @@ use Rattle.terms.specs.Answer.{figures}
 use Rattle.terms.specs.Refusals.{says}
 use Rattle.order_file.specs.declared.orders.Order.{Order}
 use Rattle.order_file.specs.Order.{read_order, trace_offset}
-use Rattle.order_file.specs.OrderRules.{read_rules, part-read, part-refused}
+use Rattle.order_file.specs.OrderRules.{read_rules, part-read}
 use Rattle.order_file.proofs.orders.trace_part.Goals as goal
 
 pub slice_bounds-result-count : goal.slice_bounds-result-count

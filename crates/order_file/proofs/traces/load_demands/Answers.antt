@@ -1,5 +1,5 @@
 -- The demands from the one reached on are left to be stored.
-use Rattle.std.proofs.Common.{ℕ, ◌+◌, ◌*◌, ◌-◌, ◌/◌, ◌<◌, ◌≡◌, List, ◌∷◌, length, arith, sym, ap, ◌∙◌}
+use Rattle.std.proofs.Common.{ℕ, ◌+◌, ◌*◌, ◌-◌, ◌/◌, ◌<◌, ◌≡◌, List, ◌∷◌, length, arith}
 use Rattle.encoding.specs.Number.{items_at, number_at}
 use Rattle.encoding.specs.StoreLaws.{one_stored, all_stored, items_next, items_none}
 use Rattle.order_file.specs.OrderRules.{length-demands}

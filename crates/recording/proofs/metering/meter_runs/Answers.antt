@@ -18,50 +18,24 @@ use Rattle.record_list.specs.PartLaws.{part-is, run_inside}
 use Rattle.recording.specs.MeteringLaws.{none_metered, one_metered, all_metered, run-refused}
 use Rattle.recording.proofs.metering.meter_runs.Goals as goal
 
-pub loop-i-init : goal.loop-i-init
-loop-i-init c = none_metered _ _ _ _ c.requires.records_value
-
-pub bounds-records-i : goal.bounds-records-i
-bounds-records-i c = let l = c.requires.counts_range in omega (arith, c.loop-i-test.true, l.few, l.periods.few)
-
-pub overflow_cast-end : goal.overflow_cast-end
-overflow_cast-end c =
-    let fits : c.args.buckets ≤ length c.args.records = let l = c.requires.counts_range in omega (arith, l.few, l.periods.few) in
-    let inside : let s = c.args in c.loop-i.start + (get_or s.records c.loop-i.i no_record).periods ≤ length s.trace.now = let l = c.loop-i in run_inside c.args.buckets c.args.records c.args.trace.now l.start l.i l.invariant.begins (fits) c.loop-i-test.true in
-    omega (arith, inside, c.requires.counts_range.periods.few)
-
-pub overflow_add-end : goal.overflow_add-end
-overflow_add-end c =
-    let fits : c.args.buckets ≤ length c.args.records = let l = c.requires.counts_range in omega (arith, l.few, l.periods.few) in
-    let inside : let s = c.args in c.loop-i.start + (get_or s.records c.loop-i.i no_record).periods ≤ length s.trace.now = let l = c.loop-i in run_inside c.args.buckets c.args.records c.args.trace.now l.start l.i l.invariant.begins (fits) c.loop-i-test.true in
-    omega (arith, inside, c.requires.counts_range.periods.few)
-
-pub offset_bounds-trace-start : goal.offset_bounds-trace-start
-offset_bounds-trace-start c =
-    let fits : c.args.buckets ≤ length c.args.records = let l = c.requires.counts_range in omega (arith, l.few, l.periods.few) in
-    let inside : let s = c.args in c.loop-i.start + (get_or s.records c.loop-i.i no_record).periods ≤ length s.trace.now = let l = c.loop-i in run_inside c.args.buckets c.args.records c.args.trace.now l.start l.i l.invariant.begins (fits) c.loop-i-test.true in
-    omega (arith, inside, c.requires.counts_range.periods.few)
-
 pub slice_bounds-meter_run-end : goal.slice_bounds-meter_run-end
 slice_bounds-meter_run-end c =
-    let fits : c.args.buckets ≤ length c.args.records = let l = c.requires.counts_range in omega (arith, l.few, l.periods.few) in
-    let inside : let s = c.args in c.loop-i.start + (get_or s.records c.loop-i.i no_record).periods ≤ length s.trace.now = let l = c.loop-i in run_inside c.args.buckets c.args.records c.args.trace.now l.start l.i l.invariant.begins (fits) c.loop-i-test.true in
+    let inside : let s = c.args in c.loop-x.start + (get_or s.records.now c.loop-x.x-index no_record).periods ≤ length s.trace.now = let l = c.loop-x in run_inside c.args.records.now c.args.trace.now l.start l.x-index l.invariant.begins c.loop-x-test.true in
     inside
 
 pub returns-in_err-meter : goal.returns-in_err-meter
 returns-in_err-meter c =
-    let fits : c.args.buckets ≤ length c.args.records = let l = c.requires.counts_range in omega (arith, l.few, l.periods.few) in
-    let ran : let l = c.loop-i in let s = c.args in let x = get_or s.records l.i no_record in says c.meter_run.result ≡ meter_run x.bucket s.factor (take x.periods (drop l.start s.trace.now)) = let l = c.loop-i in let s = c.args in let x = get_or s.records l.i no_record in c.meter_run.ensures ∙ ap (meter_run x.bucket s.factor) (part-is s.trace.now l.start x.periods) in
-    let e = run-refused _ _ _ _ c.loop-i.invariant (fits) c.loop-i-test.true _ (ran) _ (ap says c.in_err-meter.was) in
+    let ran : let l = c.loop-x in let s = c.args in let x = get_or s.records.now l.x-index no_record in says c.meter_run.result ≡ meter_run x.bucket s.factor (take x.periods (drop l.start s.trace.now)) = let l = c.loop-x in let s = c.args in let x = get_or s.records.now l.x-index no_record in c.meter_run.ensures ∙ ap (meter_run x.bucket s.factor) (part-is s.trace.now l.start x.periods) in
+    let e = run-refused _ _ _ c.loop-x.invariant c.loop-x-test.true _ (ran) _ (ap says c.in_err-meter.was) in
     search rules
 
 pub with-totals-requires : goal.with-totals-requires
 with-totals-requires c =
-    let ran : let l = c.loop-i in let s = c.args in let x = get_or s.records l.i no_record in says c.meter_run.result ≡ meter_run x.bucket s.factor (take x.periods (drop l.start s.trace.now)) = let l = c.loop-i in let s = c.args in let x = get_or s.records l.i no_record in c.meter_run.ensures ∙ ap (meter_run x.bucket s.factor) (part-is s.trace.now l.start x.periods) in
-    let sound : (m : Meter) → says c.meter_run.result ≡ figures m → Sound m = λ m e. let l = c.loop-i in let ds = c.args.trace.now in let x = get_or c.args.records l.i no_record in let h : Demands ds = record { each = λ j. omega (arith, c.type_inv.trace j) } in metered-sound x.bucket c.args.factor (take x.periods (drop l.start ds)) (demands-take x.periods _ (demands-drop l.start ds h)) (omega (arith, c.requires.counts_range.periods.few, length-take x.periods (drop l.start ds), length-drop l.start ds)) m (sym (ran) ∙ e) in
-    let few = c.loop-i.invariant.few in
+    let ran : let l = c.loop-x in let s = c.args in let x = get_or s.records.now l.x-index no_record in says c.meter_run.result ≡ meter_run x.bucket s.factor (take x.periods (drop l.start s.trace.now)) = let l = c.loop-x in let s = c.args in let x = get_or s.records.now l.x-index no_record in c.meter_run.ensures ∙ ap (meter_run x.bucket s.factor) (part-is s.trace.now l.start x.periods) in
+    let sound : (m : Meter) → says c.meter_run.result ≡ figures m → Sound m = λ m e. let l = c.loop-x in let ds = c.args.trace.now in let x = get_or c.args.records.now l.x-index no_record in let h : Demands ds = record { each = λ j. omega (arith, c.type_inv.trace j) } in metered-sound x.bucket c.args.factor (take x.periods (drop l.start ds)) (demands-take x.periods _ (demands-drop l.start ds h)) (omega (arith, c.requires.counts_range.periods.few, length-take x.periods (drop l.start ds), length-drop l.start ds)) m (sym (ran) ∙ e) in
+    let few = c.loop-x.invariant.few in
     let l = c.requires.counts_range in
-    let t = c.loop-i-test.true in record {
+    let t = c.loop-x-test.true in record {
       few = record {
         sents = omega (arith, few.sents, t, l.few, l.periods.few);
         overs = omega (arith, few.overs, t, l.few, l.periods.few);
@@ -71,18 +45,12 @@ with-totals-requires c =
       sound = sound _ (ap says c.in_ok-meter.was);
     }
 
-pub overflow_add-i : goal.overflow_add-i
-overflow_add-i c =
-    let l = c.requires.counts_range in
-    omega (arith, c.loop-i-test.true, l.few, l.periods.few)
-
-pub loop-i-preserved : goal.loop-i-preserved
-loop-i-preserved c =
-    let fits : c.args.buckets ≤ length c.args.records = let l = c.requires.counts_range in omega (arith, l.few, l.periods.few) in
-    let ran : let l = c.loop-i in let s = c.args in let x = get_or s.records l.i no_record in says c.meter_run.result ≡ meter_run x.bucket s.factor (take x.periods (drop l.start s.trace.now)) = let l = c.loop-i in let s = c.args in let x = get_or s.records l.i no_record in c.meter_run.ensures ∙ ap (meter_run x.bucket s.factor) (part-is s.trace.now l.start x.periods) in
-    let sound : (m : Meter) → says c.meter_run.result ≡ figures m → Sound m = λ m e. let l = c.loop-i in let ds = c.args.trace.now in let x = get_or c.args.records l.i no_record in let h : Demands ds = record { each = λ j. omega (arith, c.type_inv.trace j) } in metered-sound x.bucket c.args.factor (take x.periods (drop l.start ds)) (demands-take x.periods _ (demands-drop l.start ds h)) (omega (arith, c.requires.counts_range.periods.few, length-take x.periods (drop l.start ds), length-drop l.start ds)) m (sym (ran) ∙ e) in
+pub loop-x-preserved : goal.loop-x-preserved
+loop-x-preserved c =
+    let ran : let l = c.loop-x in let s = c.args in let x = get_or s.records.now l.x-index no_record in says c.meter_run.result ≡ meter_run x.bucket s.factor (take x.periods (drop l.start s.trace.now)) = let l = c.loop-x in let s = c.args in let x = get_or s.records.now l.x-index no_record in c.meter_run.ensures ∙ ap (meter_run x.bucket s.factor) (part-is s.trace.now l.start x.periods) in
+    let sound : (m : Meter) → says c.meter_run.result ≡ figures m → Sound m = λ m e. let l = c.loop-x in let ds = c.args.trace.now in let x = get_or c.args.records.now l.x-index no_record in let h : Demands ds = record { each = λ j. omega (arith, c.type_inv.trace j) } in metered-sound x.bucket c.args.factor (take x.periods (drop l.start ds)) (demands-take x.periods _ (demands-drop l.start ds h)) (omega (arith, c.requires.counts_range.periods.few, length-take x.periods (drop l.start ds), length-drop l.start ds)) m (sym (ran) ∙ e) in
     let e = ap says c.in_ok-meter.was in
-    one_metered _ _ _ _ c.loop-i.invariant (fits) c.loop-i-test.true _ (ran) _ e (sound _ e) _ c.with-totals.ensures
+    one_metered _ _ _ c.loop-x.invariant c.loop-x-test.true _ (ran) _ e (sound _ e) _ c.with-totals.ensures
 
 pub returns : goal.returns
-returns c = all_metered _ _ _ _ c.loop-i.invariant c.loop-i-test.false
+returns c = all_metered _ _ _ c.loop-x.invariant c.loop-x-test.false

@@ -26,9 +26,6 @@ module _ (ds : List ℕ) (top i : ℕ) (k : Seen ds top i) where
   unfolding greatest
   end l = sym (max-zero top) ∙ (rw (drop_of_length-le ds l) at k.all)
 
-pub loop-demand-init : goal.loop-demand-init
-loop-demand-init c = record { inside = omega arith; all = omega arith }
-
 pub loop-demand-preserved : goal.loop-demand-preserved
 loop-demand-preserved c = step _ _ _ c.loop-demand.invariant _ c.loop-demand-test.true c.max-top.ensures
 

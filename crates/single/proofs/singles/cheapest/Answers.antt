@@ -33,9 +33,6 @@ start t ds end = record { inside = omega arith; so_far = refl }
 in_range : (t : Tariff) (ds : List ℕ) (k : ℕ) → PeriodsRange (length ds) → TariffRange t → k ≤ t.rate_cap.0 → depth_of t k ds ≡ tariff_depth t k ds
 in_range t ds k n h l = depth_in_range t k ds (periods_ok_lem _ n) (both_and (tariff_ok_lem t h) (le-leb _ _ l))
 
-pub rates_to_weigh-end-requires : goal.rates_to_weigh-end-requires
-rates_to_weigh-end-requires c = c.requires.tariff_range
-
 pub loop-next-init : goal.loop-next-init
 loop-next-init c = start _ _ _
 
@@ -54,11 +51,6 @@ with_cost-here-requires c =
     let there : depth_says c.depth_at.result ≡ tariff_depth c.args.tariff c.loop-next.next c.args.trace.now = c.depth_at.ensures ∙ in_range _ _ _ c.requires.periods_range c.requires.tariff_range (slow) in
     let found : figures c.in-Ok.depth.0 ≡ tariff_depth c.args.tariff c.loop-next.next c.args.trace.now = sym (ap depth_says c.in-Ok.is) ∙ there in
     record { tariff_range = c.requires.tariff_range; periods_le_trace_limit = c.requires.periods_range.few; bucket_range = record { rates = le_trans (slow) c.requires.tariff_range.rate_caps; depths = le_trans (depth-within _ _ _ _ _ (sym (found))) c.requires.tariff_range.depth_caps } }
-
-pub with_cost-floor-requires : goal.with_cost-floor-requires
-with_cost-floor-requires c =
-    let slow : c.loop-next.next ≤ c.args.tariff.rate_cap.0 = let a = c.args in inside_cap a.tariff a.trace.now _ _ c.rates_to_weigh-end.ensures c.loop-next-test.true in
-    record { tariff_range = c.requires.tariff_range; periods_le_trace_limit = c.requires.periods_range.few; bucket_range = record { rates = le_trans (slow) c.requires.tariff_range.rate_caps; depths = omega arith } }
 
 pub returns-then-costs_less : goal.returns-then-costs_less
 returns-then-costs_less c =

@@ -20,12 +20,6 @@ returns-then-not-tariff_in_range c =
     let periods : periods_ok (length c.args.trace.now) ≡ true = (sym c.periods_in_range.ensures ∙ c.if-not-periods_in_range.false) in
     rw (periods, (sym c.tariff_in_range.ensures ∙ c.if-not-tariff_in_range.true))
 
-pub cheapest-requires : goal.cheapest-requires
-cheapest-requires c =
-    let periods : periods_ok (length c.args.trace.now) ≡ true = (sym c.periods_in_range.ensures ∙ c.if-not-periods_in_range.false) in
-    let figures : tariff_ok c.args.tariff ≡ true = (sym c.tariff_in_range.ensures ∙ c.if-not-tariff_in_range.false) in
-    record { periods_range = periods_range _ (periods); tariff_range = tariff_range _ (figures) }
-
 pub returns : goal.returns
 unfolding single_of
 returns c =

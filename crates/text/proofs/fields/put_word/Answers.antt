@@ -1,46 +1,26 @@
--- The bytes that are stored are the front of the word; behind the last comes the byte.
+-- The word takes the place of a part of the text as long as it is.
+use Prim.Native.Nat.{ℕ, ◌+◌, ◌≤◌}
 use native.Mathlib.Omega.{arith}
-use Rattle.text.specs.PutLaws.{none_copied, one_copied, word_copied, same-room, ended-length}
+use mathlib.Core.Path.{◌≡◌, refl, sym, ap, ap₂, ◌∙◌}
+use mathlib.Core.List.{List, ◌++◌}
+use lib.ListN.{length}
+use lib.Seq.{sets}
+use borrow.Rule.Slice.PartMut.{put_mid}
+use Rattle.std.proofs.lemmas.List.{take-append-drop}
+use Rattle.std.proofs.lemmas.List.Edits.{sets-eq}
+use Rattle.std.proofs.lemmas.Slice.{take-put_mid, drop-put_mid}
+use Rattle.text.specs.PutLaws.{ended-length, puts_byte}
 use Rattle.text.proofs.fields.put_word.Goals as goal
 
-pub loop-i-init : goal.loop-i-init
-loop-i-init c = none_copied _ _ _
-
-pub overflow_add-text : goal.overflow_add-text
-overflow_add-text c =
-    let k = c.loop-i.invariant in
-    omega (arith, c.requires, ended-length c.args.word.now c.args.after, k.few, same-room k.front, c.loop-i-test.true)
-
-pub bounds-text-at : goal.bounds-text-at
-bounds-text-at c =
-    let k = c.loop-i.invariant in
-    omega (arith, c.requires, ended-length c.args.word.now c.args.after, k.few, same-room k.front, c.loop-i-test.true)
-
-pub loop-i-preserved : goal.loop-i-preserved
-loop-i-preserved c = one_copied _ _ _ _ _ c.loop-i.invariant c.loop-i-test.true
-
-pub overflow_add-text-2 : goal.overflow_add-text-2
-overflow_add-text-2 c =
-    let k = c.loop-i.invariant in
-    omega (arith, c.requires, ended-length c.args.word.now c.args.after, k.few, same-room k.front, c.loop-i-test.false)
-
-pub bounds-text-at-2 : goal.bounds-text-at-2
-bounds-text-at-2 c =
-    let k = c.loop-i.invariant in
-    omega (arith, c.requires, ended-length c.args.word.now c.args.after, k.few, same-room k.front, c.loop-i-test.false)
-
-pub overflow_add-result : goal.overflow_add-result
-overflow_add-result c =
-    let k = c.loop-i.invariant in
-    omega (arith, c.requires, ended-length c.args.word.now c.args.after, k.few, same-room k.front, c.loop-i-test.false)
-
-pub overflow_add-result-2 : goal.overflow_add-result-2
-overflow_add-result-2 c =
-    let k = c.loop-i.invariant in
-    omega (arith, c.requires, ended-length c.args.word.now c.args.after, k.few, same-room k.front, c.loop-i-test.false)
-
-pub shape_of-text : goal.shape_of-text
-shape_of-text c = same-room (word_copied _ _ _ _ _ c.loop-i.invariant c.loop-i-test.false c.args.after)
+part_stored : (a k : ℕ) (xs ys zs : List ℕ) → ys ≡ zs → a + length zs ≤ length xs → a + k ≡ a + length zs → put_mid a k xs ys ≡ sets xs a zs
+part_stored a k xs ys zs same l e =
+    ap (put_mid a k xs) same
+    ∙ sym (take-append-drop (a + length zs) (put_mid a k xs zs))
+    ∙ ap₂ ◌++◌ (take-put_mid a k xs zs (a + length zs) refl (omega arith)) (drop-put_mid a k xs zs (a + length zs) (omega (arith, e)) (omega arith) (omega (arith, e)))
+    ∙ sym (sets-eq zs xs a l)
 
 pub returns : goal.returns
-returns c = word_copied _ _ _ _ _ c.loop-i.invariant c.loop-i-test.false _
+returns c =
+    let s = c.args in
+    let room : s.at + length s.word.now ≤ length s.text.now = omega (arith, ended-length s.word.now s.after) in
+    puts_byte (record { place = refl; stored = part_stored _ _ _ _ _ c.copy_from_slice.ensures.after room (omega arith) }) s.after

@@ -4,6 +4,3 @@ use Rattle.text.proofs.numerals.put_digits.Given as goal
 
 abbrev pub invariant-loop-k : goal.invariant-loop-k
 invariant-loop-k l = Spelling l.initial.text l.at l.count l.n l.text l.k l.rest
-
-abbrev pub decreases-loop-k : goal.decreases-loop-k
-decreases-loop-k l = l.k

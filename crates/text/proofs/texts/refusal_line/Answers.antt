@@ -8,7 +8,7 @@ use Rattle.terms.specs.declared.refusal.Refusal.{Refusal}
 use Rattle.text.specs.Lines.{refusal_line}
 use Rattle.text.specs.Numeral.{numeral}
 use Rattle.text.specs.LineLaws.{refusal_length, refusals_short}
-use Rattle.text.specs.FittedLaws.{too_short, put_fills}
+use Rattle.text.specs.FittedLaws.{put_fills}
 use Rattle.text.proofs.texts.refusal_line.Goals as goal
 
 weighed : (why : Refusal) (number count : ℕ) → number ≡ number_of why → count ≡ length (numeral number) → 9 + count ≡ length (refusal_line (number_of why))
@@ -17,18 +17,6 @@ weighed why number count e f = rw (← e) (omega (arith, f, refusal_length numbe
 pub overflow_add-places : goal.overflow_add-places
 overflow_add-places c =
     omega (arith, weighed c.args.why _ _ c.from-number.ensures c.places.ensures, refusals_short c.args.why)
-
-pub returns-then-text-places : goal.returns-then-text-places
-returns-then-text-places c =
-    let s = c.args in
-    let fits = weighed s.why _ _ c.from-number.ensures c.places.ensures in
-    let all = too_short (refusal_line (number_of s.why)) s.text.now (omega (arith, fits, c.if-text-places.true)) in
-    record { result_value = all.0; text_after = all.1 }
-
-pub put_refusal_line-requires : goal.put_refusal_line-requires
-put_refusal_line-requires c =
-    rw c.from-number.ensures
-    (omega (arith, weighed c.args.why _ _ c.from-number.ensures c.places.ensures, c.if-text-places.false))
 
 pub returns : goal.returns
 returns c =

@@ -1,7 +1,7 @@
 -- What the order says and the numbers spread are those that the definition gives.
 use Rattle.std.proofs.Common.{arith, sym, ap}
 use Rattle.std.proofs.lemmas.List.{length-replicate}
-use Rattle.std.specs.Prelude.{ℕ, ◌≤◌, length}
+use Rattle.std.specs.Prelude.{ℕ}
 use Rattle.terms.specs.Refusals.{says}
 use Rattle.order_file.specs.OrderedLaws.{demands-inside, order-read}
 use Rattle.order_file.proofs.ordered.Ordered.read.Goals as goal
