@@ -25,12 +25,12 @@ fn with_run(
     list: [BucketRecord; ENTRIES],
     k: usize,
     periods: u8,
-    best: Best,
+    best: Option<Best>,
 ) -> [BucketRecord; ENTRIES]
     requires { k < 4 }
 {
     let mut new = list;
-    if 0 < periods {
+    if let Some(best) = best {
         new[k] = record_of(periods as u32, best.rate as u32, best.depth as u32);
     }
     new

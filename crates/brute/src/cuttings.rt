@@ -13,18 +13,15 @@ pub struct Cutting {
     pub fourth: u8,
 }
 
-// The cheapest cutting so far and its cost, or no run and UNPRICED.
+// A cutting and its cost.
 #[derive(Clone, Copy)]
 pub struct Choice {
     pub cutting: Cutting,
     pub cost: u32,
 }
 
-// Stands for the cost where there is no bucket. Every small cost is below it.
-pub const UNPRICED: u16 = 60_000;
-
-// The cheapest cutting of a trace, and of equal ones the first in the list of cuttings.
-pub fn preferred(trace: &[u16], small: Small) -> Choice {
+// The cheapest cutting of a trace, if there is one, and of equal ones the first in the list of cuttings.
+pub fn preferred(trace: &[u16], small: Small) -> Option<Choice> {
     match trace.len() {
         1 => among(trace, small, 0, 1),
         2 => among(trace, small, 1, 3),
@@ -33,11 +30,8 @@ pub fn preferred(trace: &[u16], small: Small) -> Choice {
     }
 }
 
-fn among(trace: &[u16], small: Small, start: u8, end: u8) -> Choice {
-    let mut best = Choice {
-        cutting: runs(0, 0, 0, 0),
-        cost: UNPRICED as u32,
-    };
+fn among(trace: &[u16], small: Small, start: u8, end: u8) -> Option<Choice> {
+    let mut best = None;
     for n in start..end {
         best = cheaper(best, trace, small, listed(n));
     }
@@ -74,32 +68,32 @@ fn runs(first: u8, second: u8, third: u8, fourth: u8) -> Cutting {
     }
 }
 
-fn cheaper(best: Choice, trace: &[u16], small: Small, new: Cutting) -> Choice {
-    let cost = cost(trace, small, new);
-    if cost < best.cost {
-        return Choice { cutting: new, cost };
+fn cheaper(best: Option<Choice>, trace: &[u16], small: Small, new: Cutting) -> Option<Choice> {
+    let Some(cost) = cost(trace, small, new) else {
+        return best;
+    };
+    match best {
+        Some(old) if old.cost <= cost => best,
+        _ => Some(Choice { cutting: new, cost }),
     }
-    best
 }
 
-// The sum of the runs' costs; at least UNPRICED where a run has no bucket.
-fn cost(trace: &[u16], small: Small, c: Cutting) -> u32 {
+// The sum of the runs' costs, if each run has a bucket.
+fn cost(trace: &[u16], small: Small, c: Cutting) -> Option<u32> {
     let second = c.first as usize;
     let third = second + c.second as usize;
     let fourth = third + c.third as usize;
-    price(trace, small, 0, c.first) as u32
-        + price(trace, small, second, c.second) as u32
-        + price(trace, small, third, c.third) as u32
-        + price(trace, small, fourth, c.fourth) as u32
+    let front = price(trace, small, 0, c.first)? as u32 + price(trace, small, second, c.second)? as u32;
+    let back = price(trace, small, third, c.third)? as u32 + price(trace, small, fourth, c.fourth)? as u32;
+    Some(front + back)
 }
 
 // What the run from a start on costs; nothing where there is no run.
-fn price(trace: &[u16], small: Small, start: usize, periods: u8) -> u16 {
+fn price(trace: &[u16], small: Small, start: usize, periods: u8) -> Option<u16> {
     if periods == 0 {
-        return 0;
+        return Some(0);
     }
-    let best = of_run(trace, small, start, periods);
-    if best.found { best.cost } else { UNPRICED }
+    of_run(trace, small, start, periods).map(|best| best.cost)
 }
 
 pub fn buckets_of(c: Cutting) -> u32 {
@@ -110,5 +104,5 @@ pub fn buckets_of(c: Cutting) -> u32 {
 fn counted(periods: u8) -> u32
     ensures { result ≤ 1 }
 {
-    if periods == 0 { 0 } else { 1 }
+    u32::from(0 < periods)
 }

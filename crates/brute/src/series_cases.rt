@@ -3,7 +3,7 @@
 use terms::Refusal;
 use series::Plan;
 use crate::cutting_records::recorded;
-use crate::cuttings::{Choice, UNPRICED, buckets_of, preferred};
+use crate::cuttings::{Choice, buckets_of, preferred};
 use list_calls::series_on;
 use samples::lent_records::{are_same, filled};
 use samples::small::{Small, demand, small_tariff, tariff_of};
@@ -62,18 +62,18 @@ fn agrees_on(trace: &[u16], small: Small) -> bool {
     let answer = lent.answer;
     let list = lent.list;
     let choice = preferred(trace, small);
-    let want = recorded(trace, small, choice.cutting);
+    let want = match choice {
+        Some(x) => recorded(trace, small, x.cutting),
+        None => filled(),
+    };
     same_answer(answer, choice) & are_same(list, want, 0)
 }
 
 // The number of buckets and the cost, or refusal 7 where there is no cutting.
-fn same_answer(a: Result<Plan, Refusal>, choice: Choice) -> bool {
-    let priced = choice.cost < UNPRICED as u32;
-    match a {
-        Ok(x) => {
-            let buckets = x.buckets == buckets_of(choice.cutting);
-            priced & buckets & (x.cost == choice.cost as u64)
-        }
-        Err(x) => !priced & (u32::from(x) == 7),
+fn same_answer(a: Result<Plan, Refusal>, choice: Option<Choice>) -> bool {
+    match (a, choice) {
+        (Ok(x), Some(y)) => (x.buckets == buckets_of(y.cutting)) & (x.cost == y.cost as u64),
+        (Err(why), None) => why == Refusal::NoPlan,
+        _ => false,
     }
 }

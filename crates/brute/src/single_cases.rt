@@ -35,14 +35,15 @@ fn singles_agree(trace: &[u16], small: Small) -> bool {
     )
 }
 
-fn same_single(a: Result<Priced, Refusal>, best: Best) -> bool {
-    match a {
-        Ok(x) => {
-            let rate = x.bucket.rate.0 == best.rate as u32;
-            let depth = x.bucket.depth.0 == best.depth as u32;
-            best.found & rate & depth & (x.cost == best.cost as u64)
+fn same_single(a: Result<Priced, Refusal>, best: Option<Best>) -> bool {
+    match (a, best) {
+        (Ok(x), Some(y)) => {
+            let rate = x.bucket.rate.0 == y.rate as u32;
+            let depth = x.bucket.depth.0 == y.depth as u32;
+            rate & depth & (x.cost == y.cost as u64)
         }
-        Err(x) => !best.found & (u32::from(x) == 7),
+        (Err(why), None) => why == Refusal::NoPlan,
+        _ => false,
     }
 }
 
@@ -64,9 +65,10 @@ fn both_agree(trace: &[u16], turned: &[u16], small: Small, rate: u8) -> bool {
         & same_depth(depth_from_end(turned, rate, tariff), depth)
 }
 
-fn same_depth(a: Result<Depth, Refusal>, depth: u32) -> bool {
-    match a {
-        Ok(b) => b.0 == depth,
-        Err(x) => (depth == 256) & (u32::from(x) == 7),
+fn same_depth(a: Result<Depth, Refusal>, depth: Option<u8>) -> bool {
+    match (a, depth) {
+        (Ok(x), Some(y)) => x.0 == y as u32,
+        (Err(why), None) => why == Refusal::NoPlan,
+        _ => false,
     }
 }

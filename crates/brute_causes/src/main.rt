@@ -7,7 +7,7 @@ use causes::explain;
 use plain::{first_short, is_named};
 use samples::plain::smallest;
 use samples::small::{Small, demand, small_tariff, tariff_of};
-use terms::Rate;
+use terms::{Rate, Refusal};
 
 // One to four periods with demands 0 to 4, five factors, rate caps 0, 2 and 4, depth caps 0, 3 and 9, and
 // rates 0 to 4.
@@ -15,18 +15,7 @@ const CASES: u32 = 562_500;
 
 fn main(rt: HostRuntime) {
     report::words(&rt, b"depth and cause: ");
-    report::agreement(&rt, CASES, agreed());
-}
-
-// In how many of the cases the call agrees with what is plain.
-fn agreed() -> u32 {
-    let mut count: u32 = 0;
-    for n in 0..CASES {
-        if agrees(n) {
-            count += 1;
-        }
-    }
-    count
+    report::agreement(&rt, CASES, agrees);
 }
 
 // Case n: a rate, four demands, how many of them, and a tariff.
@@ -47,17 +36,13 @@ fn agrees(n: u32) -> bool {
 fn agrees_on(trace: &[u16], small: Small, rate: u8) -> bool {
     let sold = rate <= small.rate_cap;
     let depth = smallest(trace, small, rate);
-    let answer = explain(trace, Rate(rate as u32), tariff_of(small));
-    match answer {
-        Ok(x) => {
-            let cause = x.cause;
+    match (explain(trace, Rate(rate as u32), tariff_of(small)), depth) {
+        (Ok(x), Some(depth)) => {
             let found = first_short(trace, small.factor, rate, depth);
-            sold & (x.depth.0 == depth) & is_named(cause, found)
+            sold & (x.depth.0 == depth as u32) & is_named(x.cause, found)
         }
-        Err(why) => match u32::from(why) {
-            5 => !sold,
-            7 => sold & (depth == 256),
-            _ => false,
-        },
+        (Err(why), None) if sold => why == Refusal::NoPlan,
+        (Err(why), _) => !sold & (why == Refusal::Figure),
+        (Ok(_), None) => false,
     }
 }

@@ -23,17 +23,14 @@ pub fn is_named(cause: Cause, found: Part) -> bool {
 }
 
 // The first part of the list that a depth one smaller falls short of; none at depth 0.
-pub fn first_short(trace: &[u16], factor: Factor, rate: u8, depth: u32) -> Part {
+pub fn first_short(trace: &[u16], factor: Factor, rate: u8, depth: u8) -> Part {
     if depth == 0 {
         return part_of(0, 0);
     }
-    let smaller = ((depth - 1) % 256) as u8;
-    for n in 0..10 {
-        if is_short(trace, factor, rate, smaller, listed(n)) {
-            return listed(n);
-        }
-    }
-    part_of(0, 0)
+    (0..10)
+        .map(listed)
+        .find(|&part| is_short(trace, factor, rate, depth - 1, part))
+        .unwrap_or(part_of(0, 0))
 }
 
 // The openings, shorter ones first; then the stretches, by their last period and then by their first.

@@ -3,7 +3,7 @@ use terms::Refusal;
 use recording::Booking;
 use crate::joined::{JOINED_BYTES, joined, put_files};
 use cases::{DEMANDS, demands, field, figure, file_of, tariff_of, trace};
-use checking::{CheckAnswer, check, check_files, check_line};
+use checking::{Verdict, check, check_files, check_line};
 use list_calls::book_on;
 use order_file::write_order;
 use samples::demands::LENT_DEMAND;
@@ -81,11 +81,11 @@ fn named(rt: &impl Print, line: &[u8], order: &[u8], plan: &[u8]) {
     print_lines(rt, order, plan, room);
 }
 
-fn print_verdict(rt: &impl Print, answer: CheckAnswer) {
+fn print_verdict(rt: &impl Print, answer: Result<Verdict, Refusal>) {
     match answer {
-        CheckAnswer::Yes(excess) => report::figure(rt, b" yes", excess),
-        CheckAnswer::No => report::words(rt, b" no"),
-        CheckAnswer::Refused(x) => report::refusal(rt, x),
+        Ok(Verdict::Yes(excess)) => report::figure(rt, b" yes", excess),
+        Ok(Verdict::No) => report::words(rt, b" no"),
+        Err(x) => report::refusal(rt, x),
     }
 }
 

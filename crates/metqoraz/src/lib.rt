@@ -29,7 +29,7 @@ pub use plan_file::LONGEST_PLAN;
 pub use booking::{Booking, MeterTotals, book};
 
 // A plan from any planning house checked against an order, as an answer and as a line.
-pub use checking::{CheckAnswer, LONGEST_VERDICT, check, check_files, check_line};
+pub use checking::{LONGEST_VERDICT, Verdict, check, check_files, check_line};
 
 // Texts: the services from an order file, a figure in megabits, a refusal; and room for the longest.
 pub use services::{

@@ -40,12 +40,18 @@ pub fn end_line(rt: &impl Print) {
     words(rt, b"\n");
 }
 
-// A line with the number of cases, and in how many of them two answers agreed.
-pub fn agreement(rt: &impl Print, cases: u32, agreed: u32) {
-    words(rt, b"cases");
-    number(rt, cases as u64);
-    words(rt, b" agreed");
-    number(rt, agreed as u64);
+// A line with the number of cases, and in how many of them a call agrees with what is plain.
+pub fn agreement<F: Fn(u32) -> bool>(rt: &impl Print, cases: u32, agrees: F)
+    requires { F.IsAlwaysCallable agrees }
+{
+    let mut agreed: u32 = 0;
+    for n in 0..cases {
+        if agrees(n) {
+            agreed += 1;
+        }
+    }
+    figure(rt, b"cases", cases as u64);
+    figure(rt, b" agreed", agreed as u64);
     end_line(rt);
 }
 

@@ -4,41 +4,29 @@ ghost use Rattle.std.specs.Prelude.{◌≤◌};
 use crate::small::Small;
 use terms::{Bucket, Depth, Factor, Rate};
 
-// The cheapest bucket so far, if there is one.
+// A bucket and what it costs.
 #[derive(Clone, Copy)]
 pub struct Best {
-    pub found: bool,
     pub rate: u8,
     pub depth: u8,
     pub cost: u16,
 }
 
-pub fn no_bucket() -> Best {
-    Best {
-        found: false,
-        rate: 0,
-        depth: 0,
-        cost: 0,
-    }
+// The first depth up to the cap that carries the trace, if there is one.
+pub fn smallest(trace: &[u16], small: Small, rate: u8) -> Option<u8> {
+    (0..=small.depth_cap).find(|&depth| carries(trace, small.factor, rate, depth))
 }
 
-// The first depth up to the cap that carries the trace; 256 stands for none.
-pub fn smallest(trace: &[u16], small: Small, rate: u8) -> u32 {
-    (0..=small.depth_cap)
-        .find(|&depth| carries(trace, small.factor, rate, depth))
-        .map_or(256, u32::from)
-}
-
-// The cheapest pair, and of equal ones the first in the order of rates and then depths.
-pub fn cheapest(trace: &[u16], small: Small) -> Best {
-    let mut best = no_bucket();
+// The cheapest pair, if there is one, and of equal ones the first in the order of rates and then depths.
+pub fn cheapest(trace: &[u16], small: Small) -> Option<Best> {
+    let mut best = None;
     for rate in 0..=small.rate_cap {
         best = at_rate(best, trace, small, rate);
     }
     best
 }
 
-fn at_rate(so_far: Best, trace: &[u16], small: Small, rate: u8) -> Best {
+fn at_rate(so_far: Option<Best>, trace: &[u16], small: Small, rate: u8) -> Option<Best> {
     let mut best = so_far;
     for depth in 0..=small.depth_cap {
         if carries(trace, small.factor, rate, depth) {
@@ -57,15 +45,10 @@ fn carries(trace: &[u16], factor: Factor, rate: u8, depth: u8) -> bool {
     bucket::trial(bucket, factor, trace).is_ok_and(|t| t.over == 0)
 }
 
-fn cheaper(best: Best, rate: u8, depth: u8, cost: u16) -> Best {
-    if best.found & (best.cost <= cost) {
-        return best;
-    }
-    Best {
-        found: true,
-        rate,
-        depth,
-        cost,
+fn cheaper(best: Option<Best>, rate: u8, depth: u8, cost: u16) -> Option<Best> {
+    match best {
+        Some(old) if old.cost <= cost => best,
+        _ => Some(Best { rate, depth, cost }),
     }
 }
 
