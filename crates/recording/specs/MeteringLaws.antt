@@ -1,20 +1,20 @@
 -- The meters of a plan, run by run: how the totals grow, and that what is left to meter completes them.
 -- Assumes nothing.
-use Rattle.std.specs.Prelude.{ℕ, ◌+◌, ◌*◌, ◌≤◌, ◌<◌, ◌≡◌, refl, length, take, drop, get_or}
-use Rattle.std.proofs.Common.{arith, add_assoc, zero-add, add-zero, subst, ◌∙◌, drop-drop}
+use Rattle.std.specs.Prelude.{ℕ, ◌+◌, ◌-◌, ◌*◌, ◌≤◌, ◌≡◌, refl, length, take, drop}
+use Rattle.std.proofs.Common.{arith, add_assoc, zero-add, add-zero, subst, ◌∙◌, length-take, length-drop}
 use Rattle.std.proofs.Math.Path.{sym, ap}
 use mathlib.Core.List.{List, [], ◌∷◌}
 use Rattle.terms.specs.declared.BucketRecord.{BucketRecord}
 use Rattle.terms.specs.declared.Factor.{Factor}
 use Rattle.terms.specs.Answer.{Answer, figures, refused, on_figures, and_then}
-use Rattle.terms.specs.Limits.{total_limit}
+use Rattle.terms.specs.Limits.{meter_limit, total_limit, trace_limit}
 use Rattle.terms.specs.Records.{Cutting, run_length, total}
-use Rattle.terms.specs.Refusals.{number_of}
+use Rattle.bucket.specs.Laws.{demands-take, demands-drop}
+use Rattle.bucket.specs.Trace.{Demands}
 use Rattle.meter.specs.declared.meters.Meter.{Meter}
 use Rattle.meter.specs.Meter.{meter_run}
 use Rattle.meter.specs.MeterLaws.{Sound}
-use Rattle.record_list.specs.Held.{no_record}
-use Rattle.record_list.specs.PartLaws.{Begins, first_begins, next_begins, rest_next, rest_none}
+use Rattle.meter.specs.MeterRuns.{metered-sound}
 use Rattle.recording.specs.declared.metering.MeterTotals.{MeterTotals}
 use Rattle.recording.specs.Recording.{meters_of, totals_of}
 
@@ -63,46 +63,64 @@ completed-more : (t : MeterTotals) (m : Meter) (a : Answer (List Meter)) → com
 completed-more t m (figures ms) = ap figures (plus-more t m ms)
 completed-more t m (refused n) = refl
 
-module _ (f : Factor) (ds : List ℕ) (records : Cutting) where
-  abbrev whole : Answer MeterTotals
-  whole = on_figures totals_of (meters_of f ds records)
+-- i of a plan's runs are metered, and the totals so far are t: the records xs and the rest of the trace, which their
+-- runs make up, are left. `whole` is what all the meters end with.
+pub record Metering (f : Factor) (whole : Answer MeterTotals) (t : MeterTotals) (i : ℕ) (rest : List ℕ) (xs : Cutting) : Type 0 where
+  pub few : Few i t
+  pub short : length rest ≤ trace_limit
+  pub demands : Demands rest
+  pub runs : total run_length xs ≡ length rest
+  pub is : completed t (meters_of f rest xs) ≡ whole
 
-  -- i of the runs are metered, and the next begins at `start`.
-  pub record Metering (t : MeterTotals) (start i : ℕ) : Type 0 where
-    pub few : Few i t
-    pub begins : Begins records ds start i
-    pub is : completed t (meters_of f (drop start ds) (drop i records)) ≡ whole
+pub none_metered : (f : Factor) (ds : List ℕ) (xs : Cutting) → length ds ≤ trace_limit → Demands ds → total run_length xs ≡ length ds
+    → Metering f (on_figures totals_of (meters_of f ds xs)) none 0 ds xs
+none_metered f ds xs l d e =
+    record {
+      few = record { sents = omega arith; overs = omega arith; losts = omega arith; helds = omega arith };
+      short = l;
+      demands = d;
+      runs = e;
+      is = completed_none (meters_of f ds xs);
+    }
 
-  pub none_metered : total run_length records ≡ length ds → Metering none 0 0
-  none_metered e =
-      record {
-        few = record { sents = omega arith; overs = omega arith; losts = omega arith; helds = omega arith };
-        begins = first_begins records ds e;
-        is = completed_none (meters_of f ds records);
-      }
+module _ {f : Factor} {whole : Answer MeterTotals} {t : MeterTotals} {i : ℕ} {rest : List ℕ} {left : Cutting} (s : Metering f whole t i rest left) where
+  pub all_metered : left ≡ [] → figures t ≡ whole
+  unfolding meters_of
+  all_metered e = ap figures (sym (plus_none t)) ∙ ap (λ (xs : Cutting). completed t (meters_of f rest xs)) (sym e) ∙ s.is
 
-  module _ {t : MeterTotals} {start i : ℕ} (s : Metering t start i) where
-    module _ (l : i < length records) where
-      abbrev this : BucketRecord
-      this = get_or records i no_record
+  -- The next run, of the record x: `run` is its part of the trace, and `later` what follows.
+  module _ (x : BucketRecord) (xs : Cutting) (e : left ≡ x ∷ xs) where
+    pub run_inside : run_length x ≤ length rest
+    unfolding total
+    run_inside = omega (arith, s.runs, ap (total run_length) e)
 
-      left : drop i records ≡ this ∷ drop (i + 1) records
-      left = rest_next records i l
+    module _ (run later : List ℕ) (front : run ≡ take (run_length x) rest) (back : later ≡ drop (run_length x) rest) where
+      abbrev metered : Answer Meter
+      metered = meter_run x.bucket f run
 
       abbrev onward : Answer Meter → Answer MeterTotals
-      onward a = completed t (and_then a (λ m. on_figures (m ∷◌) (meters_of f (drop (run_length this) (drop start ds)) (drop (i + 1) records))))
+      onward a = completed t (and_then a (λ m. on_figures (m ∷◌) (meters_of f later xs)))
 
-      next : whole ≡ onward (meter_run this.bucket f (take (run_length this) (drop start ds)))
+      next : onward metered ≡ whole
       unfolding meters_of
-      next = sym s.is ∙ ap (λ (xs : Cutting). completed t (meters_of f (drop start ds) xs)) left
+      next = rw (front, back) (ap (λ (ys : Cutting). completed t (meters_of f rest ys)) (sym e) ∙ s.is)
 
-      module _ (a : Answer Meter) (e : a ≡ meter_run this.bucket f (take (run_length this) (drop start ds))) where
-        pub run-refused : (n : ℕ) → a ≡ refused n → refused n ≡ whole
-        run-refused n g = sym (next ∙ ap onward (sym e ∙ g))
+      pub run_refused : (n : ℕ) → refused n ≡ metered → refused n ≡ whole
+      run_refused n g = ap onward g ∙ next
 
-        metered_next : (m : Meter) → a ≡ figures m → Sound m → Metering (added t m) (start + run_length this) (i + 1)
+      module _ (m : Meter) (g : figures m ≡ metered) where
+        pub run_metered : Sound m
+        run_metered =
+            let few : length run ≤ meter_limit = omega (arith, s.short, ap length front, length-take (run_length x) rest) in
+            let demands : Demands run = subst Demands (sym front) (demands-take (run_length x) rest s.demands) in
+            metered-sound x.bucket f run demands few m (sym g)
+
+        pub one_metered : (u : MeterTotals) → u ≡ added t m → Metering f whole u (i + 1) later xs
         unfolding total
-        metered_next m g o =
+        one_metered u h =
+            let o = run_metered in
+            let l : length later ≡ length rest - run_length x = ap length back ∙ length-drop (run_length x) rest in
+            let one : Metering f whole (added t m) (i + 1) later xs =
             record {
               few = record {
                 sents = omega (arith, s.few.sents, o.totals.sents);
@@ -110,19 +128,9 @@ module _ (f : Factor) (ds : List ℕ) (records : Cutting) where
                 losts = omega (arith, s.few.losts, o.totals.losts);
                 helds = omega (arith, s.few.helds, o.totals.holds, o.fresh.bucket.depths);
               };
-              begins = next_begins records ds start i s.begins l;
-              is =
-                  ap (λ (ys : List ℕ). completed (added t m) (meters_of f ys (drop (i + 1) records))) (sym (drop-drop (run_length this) start ds))
-                  ∙ sym (completed-more t m (meters_of f (drop (run_length this) (drop start ds)) (drop (i + 1) records)))
-                  ∙ sym (next ∙ ap onward (sym e ∙ g));
-            }
-
-        pub one_metered : (m : Meter) → a ≡ figures m → Sound m → (t' : MeterTotals) → t' ≡ added t m → Metering t' (start + run_length this) (i + 1)
-        one_metered m g o t' h = subst (λ (u : MeterTotals). Metering u (start + run_length this) (i + 1)) (sym h) (metered_next m g o)
-
-    pub all_metered : length records ≤ i → figures t ≡ whole
-    unfolding meters_of
-    all_metered l =
-        ap figures (sym (plus_none t))
-        ∙ ap (λ (xs : Cutting). completed t (meters_of f (drop start ds) xs)) (sym (rest_none records i l))
-        ∙ s.is
+              short = omega (arith, s.short, l);
+              demands = subst Demands (sym back) (demands-drop (run_length x) rest s.demands);
+              runs = omega (arith, s.runs, ap (total run_length) e, l);
+              is = sym (completed-more t m (meters_of f later xs)) ∙ ap onward g ∙ next;
+            } in
+            subst (λ (v : MeterTotals). Metering f whole v (i + 1) later xs) (sym h) one

@@ -2,10 +2,9 @@
 -- Assumes nothing.
 use Rattle.std.specs.Prelude.{ℕ, List, [], ◌∷◌, leb, length, take, drop}
 use Rattle.terms.specs.declared.Factor.{Factor}
-use Rattle.terms.specs.Answer.{Answer, figures, refused, weigh, on_figures, and_then}
+use Rattle.terms.specs.Answer.{Answer, figures, weigh, on_figures, and_then}
 use Rattle.terms.specs.Ranges.{factor_ok}
 use Rattle.terms.specs.Records.{Cutting, run_length, total}
-use Rattle.terms.specs.Refusals.{number_of}
 use Rattle.meter.specs.declared.meters.Meter.{Meter}
 use Rattle.meter.specs.Meter.{meter_run}
 use Rattle.plan_file.specs.declared.answers.PlanFigures.{PlanFigures}

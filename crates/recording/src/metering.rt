@@ -56,12 +56,12 @@ pub fn meter_runs(
         lost: 0,
         held: 0,
     };
-    let mut start = 0;
+    let mut rest = trace;
     for &x in records {
-        let end = start + x.periods as usize;
-        let meter = meter_run(x.bucket, factor, &trace[start..end])?;
+        let (run, later) = rest.split_at(x.periods as usize);
+        let meter = meter_run(x.bucket, factor, run)?;
         totals = totals.with(meter);
-        start = end;
+        rest = later;
     }
     Ok(totals)
 }
