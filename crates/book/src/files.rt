@@ -5,10 +5,10 @@ ghost use Rattle.terms.specs.Refusals.{says};
 ghost use Rattle.plan_file.specs.Plan.{longest_plan};
 ghost use Rattle.book.specs.Filed.{BooksFile};
 
-use terms::Refusal;
-use recording::Booking;
 use booking::book;
 use record_list::arrays::blank_records;
+use recording::Booking;
+use terms::Refusal;
 use terms::limits::TRACE_LIMIT;
 
 // Books an order: the plan's file fills the front of the bytes, which have room for the longest; or a

@@ -4,32 +4,24 @@
 
 mod files;
 
-use console::{ORDER_ROOM, has_words, put_front, read_all, refuse};
+use console::{ORDER_ROOM, Program};
 use files::book_file;
 use plan_file::LONGEST_PLAN;
 
 fn main(rt: HostRuntime) {
-    if !has_words(
-        &rt,
-        &rt.stderr(),
-        1,
-        b"use: book < ORDER > PLAN (an order file on standard input)\n",
-        b"book: write",
-    ) {
+    let program = Program {
+        name: "book",
+        errors: &rt.stderr(),
+    };
+    let usage = b"use: book < ORDER > PLAN (an order file on standard input)\n";
+    if !program.has_words(&rt, 1, usage) {
         return;
     }
     let mut order = [0u8; ORDER_ROOM];
-    let length = read_all(&rt, &rt.stderr(), &mut order, b"book: standard input");
-    book_order(&rt, &rt.stderr(), &order[..length]);
-}
-
-fn book_order(rt: &impl Print, errors: &impl Print, order: &[u8]) {
+    let length = program.read(&rt, &mut order);
     let mut bytes = [0u8; LONGEST_PLAN];
-    let answer = book_file(order, &mut bytes);
-    match answer {
-        Ok(booked) => {
-            put_front(rt, errors, &bytes, booked.length, b"book: write");
-        }
-        Err(why) => refuse(errors, errors, why, b"book: write"),
+    match book_file(&order[..length], &mut bytes) {
+        Ok(booked) => program.put_front(&rt, &bytes, booked.length),
+        Err(why) => program.refuse(program.errors, why),
     }
 }

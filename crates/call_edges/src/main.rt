@@ -9,11 +9,15 @@ mod meters;
 mod million;
 
 use cases::{field, first, line, lines};
-use console::{INPUT_ROOM, read_all};
+use console::{INPUT_ROOM, Program};
 
 fn main(rt: HostRuntime) {
     let mut input = [0u8; INPUT_ROOM];
-    let length = read_all(&rt, &rt.stderr(), &mut input, b"call_edges: standard input");
+    let program = Program {
+        name: "call_edges",
+        errors: &rt.stderr(),
+    };
+    let length = program.read(&rt, &mut input);
     each_case(&rt, &input[..length]);
     million::offers_until_full(&rt);
     million::runs(&rt);

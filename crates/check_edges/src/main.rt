@@ -7,16 +7,15 @@ mod checks;
 mod joined;
 
 use cases::{first, line, lines};
-use console::{INPUT_ROOM, read_all};
+use console::{INPUT_ROOM, Program};
 
 fn main(rt: HostRuntime) {
     let mut input = [0u8; INPUT_ROOM];
-    let length = read_all(
-        &rt,
-        &rt.stderr(),
-        &mut input,
-        b"check_edges: standard input",
-    );
+    let program = Program {
+        name: "check_edges",
+        errors: &rt.stderr(),
+    };
+    let length = program.read(&rt, &mut input);
     each_case(&rt, &input[..length]);
 }
 

@@ -3,7 +3,7 @@
 #![tactic(auto)]
 
 use checking::{LONGEST_VERDICT, check_files};
-use console::{has_words, print, read_all};
+use console::Program;
 use order_file::LONGEST_ORDER;
 use plan_file::LONGEST_PLAN;
 
@@ -11,18 +11,18 @@ use plan_file::LONGEST_PLAN;
 const FILES_ROOM: usize = LONGEST_ORDER + LONGEST_PLAN + 1;
 
 fn main(rt: HostRuntime) {
-    if !has_words(
-        &rt,
-        &rt.stderr(),
-        1,
-        b"use: check_plan < FILES (an order file and, behind it, a plan file on standard input)\n",
-        b"check_plan: write",
-    ) {
-        return;
+    let program = Program {
+        name: "check_plan",
+        errors: &rt.stderr(),
+    };
+    let usage =
+        b"use: check_plan < FILES (an order file and, behind it, a plan file on standard input)\n";
+    if program.has_words(&rt, 1, usage) {
+        program.answer(
+            &rt,
+            &mut [0; FILES_ROOM],
+            &mut [0; LONGEST_VERDICT],
+            |files, text| { check_files(files, text) },
+        );
     }
-    let mut files = [0u8; FILES_ROOM];
-    let length = read_all(&rt, &rt.stderr(), &mut files, b"check_plan: standard input");
-    let mut text = [0u8; LONGEST_VERDICT];
-    let answer = check_files(&files[..length], &mut text);
-    print(&rt, &rt.stderr(), answer, &text, b"check_plan: write");
 }

@@ -5,7 +5,7 @@
 use cases::{
     DEMANDS, bucket_of, demands, factor_of, field, figure, first, line, lines, tariff_of, trace,
 };
-use console::{INPUT_ROOM, read_all};
+use console::{INPUT_ROOM, Program};
 use list_calls::series_on;
 use metqoraz::{BucketRecord, LONGEST_FIGURE, Rate, Tariff};
 use samples::file_bytes::front;
@@ -13,7 +13,11 @@ use samples::lent_records::{ENTRIES, record_of};
 
 fn main(rt: HostRuntime) {
     let mut input = [0u8; INPUT_ROOM];
-    let length = read_all(&rt, &rt.stderr(), &mut input, b"figures: standard input");
+    let program = Program {
+        name: "figures",
+        errors: &rt.stderr(),
+    };
+    let length = program.read(&rt, &mut input);
     each_case(&rt, &input[..length]);
     row_j(&rt);
     row_l(&rt);

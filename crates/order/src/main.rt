@@ -5,36 +5,32 @@
 
 mod faults;
 
-use console::{INPUT_ROOM, has_words, put_front, read_all};
+use console::{INPUT_ROOM, Program};
 use order_file::LONGEST_ORDER;
 use order_text::{TextError, order_of_text};
 
 fn main(rt: HostRuntime) {
-    if !has_words(
-        &rt,
-        &rt.stderr(),
-        1,
-        b"use: order < TEXT > ORDER (figures as decimal text on standard input)\n",
-        b"order: write",
-    ) {
+    let program = Program {
+        name: "order",
+        errors: &rt.stderr(),
+    };
+    let usage = b"use: order < TEXT > ORDER (figures as decimal text on standard input)\n";
+    if !program.has_words(&rt, 1, usage) {
         return;
     }
     let mut text = [0u8; INPUT_ROOM];
-    let length = read_all(&rt, &rt.stderr(), &mut text, b"order: standard input");
+    let length = program.read(&rt, &mut text);
     // a buffer that is full may leave text behind
     if length == text.len() {
         faults::long_text(&rt);
         return;
     }
-    write_order(&rt, &rt.stderr(), &text[..length]);
-}
-
-fn write_order(rt: &(impl Print + Eprint), errors: &impl Print, text: &[u8]) {
+    let text = &text[..length];
     let mut file = [0; LONGEST_ORDER];
     match order_of_text(text, &mut file) {
-        Ok(length) => put_front(rt, errors, &file, length, b"order: write"),
-        Err(TextError::Faulty(fault)) => faults::say(rt, fault, text),
+        Ok(length) => program.put_front(&rt, &file, length),
+        Err(TextError::Faulty(fault)) => faults::say(&rt, fault, text),
         // never: the bytes are as many as the longest file has
-        Err(TextError::Refused(refusal)) => faults::refused(rt, refusal),
+        Err(TextError::Refused(refusal)) => faults::refused(&rt, refusal),
     }
 }

@@ -11,17 +11,16 @@ mod spreads;
 mod written;
 
 use cases::{field, figure, first, line, lines};
-use console::{INPUT_ROOM, read_all};
+use console::{INPUT_ROOM, Program};
 
 fn main(rt: HostRuntime) {
     printed::case(&rt);
     let mut input = [0u8; INPUT_ROOM];
-    let length = read_all(
-        &rt,
-        &rt.stderr(),
-        &mut input,
-        b"order_edges: standard input",
-    );
+    let program = Program {
+        name: "order_edges",
+        errors: &rt.stderr(),
+    };
+    let length = program.read(&rt, &mut input);
     each_case(&rt, &input[..length]);
     longest::edges(&rt);
     longest::megabyte(&rt);

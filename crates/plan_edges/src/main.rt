@@ -9,12 +9,16 @@ mod readings;
 mod writing;
 
 use cases::{field, figure, first, line, lines};
-use console::{INPUT_ROOM, read_all};
+use console::{INPUT_ROOM, Program};
 
 fn main(rt: HostRuntime) {
     printed::case(&rt);
     let mut input = [0u8; INPUT_ROOM];
-    let length = read_all(&rt, &rt.stderr(), &mut input, b"plan_edges: standard input");
+    let program = Program {
+        name: "plan_edges",
+        errors: &rt.stderr(),
+    };
+    let length = program.read(&rt, &mut input);
     each_case(&rt, &input[..length]);
     longest::edges(&rt);
 }

@@ -11,12 +11,16 @@ mod places;
 mod words;
 
 use cases::{PLAIN_ROOM, field, first, line, lines, number, plain, plain_text};
-use console::{INPUT_ROOM, read_all};
+use console::{INPUT_ROOM, Program};
 use samples::file_bytes::LENT_BYTES;
 
 fn main(rt: HostRuntime) {
     let mut input = [0u8; INPUT_ROOM];
-    let length = read_all(&rt, &rt.stderr(), &mut input, b"text_edges: standard input");
+    let program = Program {
+        name: "text_edges",
+        errors: &rt.stderr(),
+    };
+    let length = program.read(&rt, &mut input);
     each_case(&rt, &input[..length]);
 }
 
