@@ -5,7 +5,7 @@
 use Rattle.std.specs.Prelude.{ℕ, ◌≤◌, ◌≡◌, Bool, false, List, leb, length}
 use Rattle.terms.specs.declared.BucketRecord.{BucketRecord}
 use Rattle.terms.specs.declared.Tariff.{Tariff}
-use Rattle.terms.specs.Answer.{Answer, figures, refused, weigh, on_figures}
+use Rattle.terms.specs.Answer.{Answer, weigh, on_figures}
 use Rattle.terms.specs.Ranges.{periods_ok, tariff_ok}
 use Rattle.terms.specs.Records.{Cutting, run_length, total}
 use Rattle.single.specs.declared.costs.Priced.{Priced}
@@ -64,4 +64,3 @@ series_of t room ds = weigh (periods_ok (length ds)) 3 (weigh (tariff_ok t) 5 (w
 -- The figures that are answered: the number of buckets and the cost.
 abbrev pub plan_of : Tariff → Answer Cutting → Answer Plan
 plan_of t = on_figures (λ xs. record { buckets = length xs; cost = true_cost_of t xs })
-

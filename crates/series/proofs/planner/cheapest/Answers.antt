@@ -1,7 +1,6 @@
 -- The outline from the first period on is that of the whole trace: without a cost there is no cutting,
 -- and else its runs are recorded.
-use borrow.Author.Rules.{rules}
-use Rattle.series.specs.RecordLaws.{kept_none, kept_firsts, kept-plan}
+use Rattle.series.specs.RecordLaws.{kept_none}
 use Rattle.series.specs.CallLaws.{refusal}
 use Rattle.series.specs.SuffixLaws.{kept_start}
 use Rattle.series.proofs.planner.cheapest.Goals as goal
@@ -14,9 +13,3 @@ returns-then-cost-eq-UNPRICED c =
     let all = refusal c.args.tariff _ _ _ c.refused.ensures
     (kept_none _ c.requires.tariff_range _ c.requires.periods_range.few _ _ _ c.cut_suffixes.ensures c.if-cost-eq-UNPRICED.true) in
     record { answer_value = all.0; records_value = all.1 }
-
-pub record_runs-records-requires : goal.record_runs-records-requires
-record_runs-records-requires c = record { periods_range = c.requires.periods_range; tariff_range = c.requires.tariff_range; firsts = kept_firsts _ c.requires.tariff_range _ c.requires.periods_range.few _ _ _ c.cut_suffixes.ensures c.if-cost-eq-UNPRICED.false }
-
-pub returns : goal.returns
-returns c = record { answer_value = kept-plan _ c.requires.tariff_range _ c.requires.periods_range.few _ _ _ c.cut_suffixes.ensures c.if-cost-eq-UNPRICED.false; records_value = c.record_runs-records.ensures }

@@ -3,15 +3,12 @@ use Prim.Native.Nat.{ℕ}
 use mathlib.Core.Path.{◌≡◌, subst}
 use mathlib.Core.Bool.{true, false}
 use mathlib.Core.List.{List}
-use borrow.Author.Rules.{rules}
 use borrow.Author.Tests.{le-leb, lt-leb}
 use lib.Dec.{leb}
 use lib.ListN.{length}
 use Rattle.terms.specs.declared.Tariff.{Tariff}
 use Rattle.terms.specs.Answer.{Answer, refused}
-use Rattle.terms.specs.Bools.{check_passed, check_failed}
 use Rattle.terms.specs.Ranges.{periods_ok, tariff_ok}
-use Rattle.terms.specs.RangeLaws.{periods_range, tariff_range}
 use Rattle.terms.specs.Records.{Cutting}
 use Rattle.terms.specs.Refusals.{says}
 use Rattle.series.specs.Series.{cheapest_cut, plan_of, series_of}
@@ -64,12 +61,6 @@ returns-then-room-periods c =
     let all = refusal _ _ _ _ c.refused-then-room-periods.ensures
     (no_room s.tariff s.room s.trace.now (periods) (figures) (lt-leb _ _ c.if-room-periods.true)) in
     record { answer_value = all.0; records_value = all.1 }
-
-pub cheapest-requires : goal.cheapest-requires
-cheapest-requires c =
-    let periods : periods_ok (length c.args.trace.now) ≡ true = (sym c.periods_in_range.ensures ∙ c.if-not-periods_in_range.false) in
-    let figures : tariff_ok c.args.tariff ≡ true = (sym c.tariff_in_range.ensures ∙ c.if-not-tariff_in_range.false) in
-    record { periods_range = periods_range _ (periods); tariff_range = tariff_range _ (figures) }
 
 pub returns : goal.returns
 returns c =

@@ -15,7 +15,6 @@ use Rattle.terms.specs.RangeRules.{PeriodsRange}
 use Rattle.terms.specs.declared.Bucket.{Bucket}
 use Rattle.terms.specs.declared.BucketRecord.{BucketRecord}
 use Rattle.terms.specs.declared.Tariff.{Tariff}
-use borrow.Author.Rules.{rules}
 use borrow.Rule.Slice.PartAt.{part_count}
 use lib.ListN.{length, take, drop, get_or, set, length-drop, drop_of_length-le}
 use mathlib.Core.List.{List, []}
@@ -108,16 +107,6 @@ module _ (t : Tariff) (ds : List ℕ) (records : Cutting) (start k : ℕ) (r : R
 
 pub loop-start-init : goal.loop-start-init
 loop-start-init c = begin _ _ _ _ c.blank_records-records.ensures c.requires.firsts
-
-pub overflow_cast-end : goal.overflow_cast-end
-overflow_cast-end c =
-    let run_ends : c.loop-start.start + get_or c.args.firsts.now c.loop-start.start 0 ≤ length c.args.trace.now = ends _ _ _ _ _ c.loop-start.invariant _ c.requires.firsts c.loop-start-test.true in
-    omega (arith, run_ends, c.requires.periods_range.few)
-
-pub overflow_add-end : goal.overflow_add-end
-overflow_add-end c =
-    let run_ends : c.loop-start.start + get_or c.args.firsts.now c.loop-start.start 0 ≤ length c.args.trace.now = ends _ _ _ _ _ c.loop-start.invariant _ c.requires.firsts c.loop-start-test.true in
-    omega (arith, run_ends, c.requires.periods_range.few)
 
 pub slice_bounds-bucket_of-end : goal.slice_bounds-bucket_of-end
 slice_bounds-bucket_of-end c =
