@@ -9,48 +9,29 @@ pub const PLAIN_ROOM: usize = 256;
 pub fn plain(field: &[u8], room: &mut [u8; PLAIN_ROOM]) -> usize {
     let mut filled = 0;
     let mut passed: u8 = 0;
-    for i in 0..field.len() {
-        if passed == 0 {
-            if filled < PLAIN_ROOM {
-                room[filled] = byte_of(
-                    field[i],
-                    behind(field, i, 1),
-                    behind(field, i, 2),
-                    behind(field, i, 3),
-                );
-                filled += 1;
-            }
-            passed = width(field[i], behind(field, i, 1));
-        } else {
+    for (i, &byte) in field.iter().enumerate() {
+        if 0 < passed {
             passed -= 1;
+            continue;
         }
+        let next = behind(field, i, 1);
+        if filled < PLAIN_ROOM {
+            room[filled] = byte_of(byte, next, behind(field, i, 2), behind(field, i, 3));
+            filled += 1;
+        }
+        passed = width(byte, next);
     }
     filled
 }
 
 // The bytes that were stored.
 pub fn plain_text(room: &[u8; PLAIN_ROOM], length: usize) -> &[u8] {
-    front(room, length)
-}
-
-// The first bytes, or all where there are fewer.
-fn front(bytes: &[u8], length: usize) -> &[u8] {
-    if length <= bytes.len() {
-        &bytes[..length]
-    } else {
-        bytes
-    }
+    &room[..length.min(PLAIN_ROOM)]
 }
 
 // The byte that stands so far behind a place; 0 where there is none.
 fn behind(field: &[u8], place: usize, by: usize) -> u8 {
-    if field.len() <= by {
-        return 0;
-    }
-    if field.len() - by <= place {
-        return 0;
-    }
-    field[place + by]
+    field.iter().skip(place).nth(by).copied().unwrap_or(0)
 }
 
 // How many bytes more an escape has; none where there is no escape.

@@ -2,6 +2,7 @@
 ghost use Rattle.std.specs.Prelude.{◌≡◌, length};
 
 use crate::numbers::figure;
+use std::array;
 
 // As long as a file may be.
 pub const FILE_ROOM: usize = 128;
@@ -11,19 +12,5 @@ pub const FILE_ROOM: usize = 128;
 pub fn file_of(field: &[u8]) -> [u8; FILE_ROOM]
     ensures { 128 ≡ length result }
 {
-    let mut bytes = [0u8; FILE_ROOM];
-    for i in 0..FILE_ROOM {
-        bytes[i] = byte(figure(field, i / 4), i % 4);
-    }
-    bytes
-}
-
-// A byte of a number; the lowest is byte 0.
-fn byte(word: u32, n: usize) -> u8 {
-    match n {
-        0 => (word % 256) as u8,
-        1 => (word / 256 % 256) as u8,
-        2 => (word / 65_536 % 256) as u8,
-        _ => (word / 16_777_216) as u8,
-    }
+    array::from_fn(|i| figure(field, i / 4).to_le_bytes()[i % 4])
 }

@@ -1,29 +1,16 @@
 // Decimal numbers in a field.
-ghost use Rattle.std.specs.Prelude.{◌≤◌};
-
 use crate::parts::part;
 
 // A word of digits as a number; as great as 8 bytes hold where it is greater. No digits are 0.
 pub fn number(word: &[u8]) -> u64 {
-    let mut n: u64 = 0;
-    for i in 0..word.len() {
-        n = with_digit(n, word[i]);
-    }
-    n
-}
-
-fn with_digit(n: u64, byte: u8) -> u64 {
-    if n <= 1_844_674_407_370_955_160 {
-        n * 10 + digit(byte)
-    } else {
-        u64::MAX
-    }
+    word.iter().fold(
+        0,
+        |n: u64, &byte| n.saturating_mul(10).saturating_add(digit(byte)),
+    )
 }
 
 // What a digit stands for; 0 for any other byte.
-fn digit(byte: u8) -> u64
-    ensures { result ≤ 9 }
-{
+fn digit(byte: u8) -> u64 {
     match byte {
         b'0'..=b'9' => (byte - b'0') as u64,
         _ => 0,

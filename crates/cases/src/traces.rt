@@ -22,7 +22,7 @@ fn typed(field: &[u8], room: &mut [u16; DEMANDS]) -> usize {
     for n in 0..words(field) {
         let word = part(field, n, b' ');
         let demand = part(word, 1, b'*');
-        if demand.len() == 0 {
+        if demand.is_empty() {
             count = stored(room, count, 1, small(word));
         } else {
             count = stored(room, count, small(part(word, 0, b'*')), small(demand));
@@ -33,16 +33,7 @@ fn typed(field: &[u8], room: &mut [u16; DEMANDS]) -> usize {
 
 // The demands that were stored.
 pub fn demands(room: &[u16; DEMANDS], count: usize) -> &[u16] {
-    front(room, count)
-}
-
-// The first demands, or all where there are fewer.
-fn front(demands: &[u16], count: usize) -> &[u16] {
-    if count <= demands.len() {
-        &demands[..count]
-    } else {
-        demands
-    }
+    &room[..count.min(DEMANDS)]
 }
 
 // A demand stored some times from a place on, as far as there is room; the place behind.

@@ -9,16 +9,9 @@ use Rattle.encoding.specs.FillLaws.{Fills}
 use Rattle.order_file.specs.Order.{order_end}
 use Rattle.order_file.specs.Ordered.{Ordered, ordered}
 use Rattle.order_file.specs.OrderedLaws.{is-ordered, ordered-count, ordered_range}
-<<<<<<< HEAD
 use Rattle.plan_file.specs.declared.answers.Recorded.{Recorded}
 use Rattle.plan_file.specs.Plan.{plan_in, read_plan}
 use Rattle.plan_file.specs.PlanRules.{read_range, read_whole}
-=======
-use Rattle.plan_file.specs.declared.answers.PlanFigures.{PlanFigures}
-use Rattle.plan_file.specs.declared.answers.Recorded.{Recorded}
-use Rattle.plan_file.specs.Plan.{buckets_of, figures_in, plan_in, read_plan, recorded_figures}
-use Rattle.plan_file.specs.PlanRules.{plan-few, read_range, read_whole}
->>>>>>> 369428b58d0fdcca4e590c9f10b4c953d4ff6d90
 use Rattle.plan_file.specs.RecordLaws.{RecordsRange}
 use Rattle.checking.specs.Check.{Verdict, verdict_of, compared, check_of, check_in, check_files}
 use Rattle.checking.specs.WeighLaws.{Weighable}

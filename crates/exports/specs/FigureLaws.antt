@@ -27,6 +27,7 @@ use Rattle.order_file.specs.Order.{order_length, write_order}
 use Rattle.order_file.specs.OrderRules.{length-order}
 use Rattle.order_file.specs.Ordered.{ordered}
 use Rattle.order_file.specs.OrderedLaws.{is-ordered, ordered_range, spread-demands}
+use Rattle.plan_file.specs.declared.answers.Recorded.{Recorded}
 use Rattle.plan_file.specs.Plan.{fitting, plan_in, read_plan}
 use Rattle.plan_file.specs.Plan as plan
 use Rattle.plan_file.specs.PlanRules.{length-plan, read_rules, write_rules}
@@ -192,7 +193,7 @@ plan-below room bs n e =
     let a = then_found (plan_in bs) (fitting room) g.1 in
     let w = weigh-figures (leb (length a.0.buckets) room) 6 (figures a.0) a.2 in
     let r = read_rules bs a.0 a.1 in
-    omega (arith, g.2, ap (λ (x : plan.Recorded). x.cost) (same-figures w.1), ap (λ (x : plan.Recorded). x.cost) r.1, r.0.cost)
+    omega (arith, g.2, ap (λ (x : Recorded). x.cost) (same-figures w.1), ap (λ (x : Recorded). x.cost) r.1, r.0.cost)
 
 -- ---- Checks
 

@@ -21,18 +21,12 @@ pub fn coded_refusal(why: Refusal) -> u64
 pub fn coded_fill(answer: Result<usize, Refusal>) -> u64
     ensures { result ≡ coded (says answer) }
 {
-    match answer {
-        Ok(n) => n as u64,
-        Err(why) => coded_refusal(why),
-    }
+    answer.map_or_else(coded_refusal, |n| n as u64)
 }
 
 // The number of a depth's answer: the depth, or the refusal.
 pub fn coded_depth(answer: Result<Depth, Refusal>) -> u64
     ensures { result ≡ coded (depth_says answer) }
 {
-    match answer {
-        Ok(depth) => depth.0 as u64,
-        Err(why) => coded_refusal(why),
-    }
+    answer.map_or_else(coded_refusal, |depth| depth.0 as u64)
 }

@@ -2,15 +2,15 @@
 use terms::Refusal;
 use samples::demands::are_lent;
 use samples::file_bytes::summed;
-use samples::lent_records::{ENTRIES, at_most};
+use samples::lent_records::ENTRIES;
 
 // How many demands there are, and the first.
 pub fn print_length(rt: &impl Print, trace: &[u16]) {
     report::words(rt, b"trace of");
     report::number(rt, trace.len() as u64);
-    if 0 < trace.len() {
+    if let Some(&first) = trace.first() {
         report::words(rt, b" from");
-        print_demand(rt, trace[0]);
+        print_demand(rt, first);
     }
 }
 
@@ -32,22 +32,10 @@ pub fn print_list(rt: &impl Print, answer: Result<usize, Refusal>, list: &[u16; 
 
 // A number that each of the first demands and its place enter.
 fn checksum(list: &[u16; ENTRIES], count: usize) -> u32 {
-    let mut sum: u32 = 0;
-    for i in 0..at_most(count, ENTRIES) {
-        sum = summed(sum, list[i]);
-    }
-    sum
+    list.iter().take(count).fold(0, |sum, &demand| summed(sum, demand))
 }
 
 // Whether the trace stands at the front of the list.
 pub fn is_front(trace: &[u16], list: &[u16; ENTRIES]) -> bool {
-    for i in 0..trace.len() {
-        if ENTRIES <= i {
-            return false;
-        }
-        if list[i] != trace[i] {
-            return false;
-        }
-    }
-    true
+    list.starts_with(trace)
 }

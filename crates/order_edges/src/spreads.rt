@@ -6,6 +6,7 @@ use order_file::spread;
 use samples::demands::{LENT_DEMAND, lent_demands};
 use samples::file_bytes::front;
 use samples::lent_records::ENTRIES;
+use std::array;
 
 // One demand more than a part may hold.
 const PART_BYTES: usize = 1026;
@@ -27,9 +28,5 @@ pub fn edge(rt: &impl Print, part: usize, list: usize) {
 fn part_bytes() -> [u8; PART_BYTES]
     ensures { 1026 ≡ length result }
 {
-    let mut bytes = [0u8; PART_BYTES];
-    for i in 0..PART_BYTES {
-        bytes[i] = ((i * 167 + i / 7) % 251) as u8;
-    }
-    bytes
+    array::from_fn(|i| ((i * 167 + i / 7) % 251) as u8)
 }

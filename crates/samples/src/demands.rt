@@ -6,30 +6,16 @@ pub const LENT_DEMAND: u16 = 43_690;
 
 // The first entries of a list, to be written to; all where there are fewer.
 pub fn lent_demands(list: &mut [u16], entries: usize) -> &mut [u16] {
-    if entries <= list.len() {
-        &mut list[..entries]
-    } else {
-        list
-    }
+    let entries = entries.min(list.len());
+    &mut list[..entries]
 }
 
 // The entries from one on and before another; none where the list has no such part.
 pub fn part_of(list: &[u16], start: usize, end: usize) -> &[u16] {
-    if list.len() < end {
-        return &list[..0];
-    }
-    if end < start {
-        return &list[..0];
-    }
-    &list[start..end]
+    list.get(start..end).unwrap_or(&[])
 }
 
 // Whether the entries from one on are as they were lent.
 pub fn are_lent(list: &[u16; ENTRIES], start: usize) -> bool {
-    for i in start..ENTRIES {
-        if list[i] != LENT_DEMAND {
-            return false;
-        }
-    }
-    true
+    list.iter().skip(start).all(|&demand| demand == LENT_DEMAND)
 }

@@ -1,5 +1,4 @@
 // Bytes of files: a checksum, and lent bytes that are compared after a call.
-use crate::lent_records::at_most;
 use plan_file::LONGEST_PLAN;
 
 // Bytes for the printed case's order or plan, and some more.
@@ -13,33 +12,21 @@ pub const LENT: u8 = 0xAA;
 
 // The first bytes, or all where there are fewer.
 pub fn front(bytes: &[u8], length: usize) -> &[u8] {
-    if length <= bytes.len() {
-        &bytes[..length]
-    } else {
-        bytes
-    }
+    &bytes[..length.min(bytes.len())]
 }
 
 // The same of bytes to be written to.
 pub fn lent_front(bytes: &mut [u8], length: usize) -> &mut [u8] {
-    if length <= bytes.len() {
-        &mut bytes[..length]
-    } else {
-        bytes
-    }
+    let length = length.min(bytes.len());
+    &mut bytes[..length]
 }
 
 // A number that each of the first bytes and its place enter.
 pub fn checksum(bytes: &[u8; LENT_BYTES], length: usize) -> u32 {
-    let mut sum: u32 = 0;
-    for i in 0..at_most(length, LENT_BYTES) {
-        sum = with_byte(sum, bytes[i]);
-    }
-    sum
-}
-
-fn with_byte(sum: u32, byte: u8) -> u32 {
-    summed(sum, byte as u16)
+    bytes
+        .iter()
+        .take(length)
+        .fold(0, |sum, &byte| summed(sum, byte as u16))
 }
 
 // A checksum with one number more.
@@ -49,10 +36,5 @@ pub fn summed(sum: u32, n: u16) -> u32 {
 
 // Whether the bytes from one on are as they were lent.
 pub fn is_lent(bytes: &[u8; LENT_BYTES], start: usize) -> bool {
-    for i in start..LENT_BYTES {
-        if bytes[i] != LENT {
-            return false;
-        }
-    }
-    true
+    bytes.iter().skip(start).all(|&byte| byte == LENT)
 }

@@ -12,7 +12,7 @@ pub const ENTRIES: usize = TRACE_LIMIT + 4;
 pub fn at_most(n: usize, most: usize) -> usize
     ensures { result ≤ most }
 {
-    if n < most { n } else { most }
+    n.min(most)
 }
 
 pub fn record_of(periods: u32, rate: u32, depth: u32) -> BucketRecord {
@@ -55,16 +55,5 @@ pub fn are_kept(list: [BucketRecord; ENTRIES], start: usize) -> bool {
 
 // Whether two lists hold the same from one record on.
 pub fn are_same(a: [BucketRecord; ENTRIES], b: [BucketRecord; ENTRIES], start: usize) -> bool {
-    for i in start..ENTRIES {
-        if !same_record(a[i], b[i]) {
-            return false;
-        }
-    }
-    true
-}
-
-pub fn same_record(a: BucketRecord, b: BucketRecord) -> bool {
-    (a.periods == b.periods)
-        & (a.bucket.rate.0 == b.bucket.rate.0)
-        & (a.bucket.depth.0 == b.bucket.depth.0)
+    a.iter().zip(&b).skip(start).all(|(a, b)| a == b)
 }

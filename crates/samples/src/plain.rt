@@ -24,12 +24,9 @@ pub fn no_bucket() -> Best {
 
 // The first depth up to the cap that carries the trace; 256 stands for none.
 pub fn smallest(trace: &[u16], small: Small, rate: u8) -> u32 {
-    for depth in 0..=small.depth_cap {
-        if carries(trace, small.factor, rate, depth) {
-            return depth as u32;
-        }
-    }
-    256
+    (0..=small.depth_cap)
+        .find(|&depth| carries(trace, small.factor, rate, depth))
+        .map_or(256, u32::from)
 }
 
 // The cheapest pair, and of equal ones the first in the order of rates and then depths.
@@ -57,10 +54,7 @@ fn carries(trace: &[u16], factor: Factor, rate: u8, depth: u8) -> bool {
         rate: Rate(rate as u32),
         depth: Depth(depth as u32),
     };
-    match bucket::trial(bucket, factor, trace) {
-        Ok(t) => t.over == 0,
-        Err(_) => false,
-    }
+    bucket::trial(bucket, factor, trace).is_ok_and(|t| t.over == 0)
 }
 
 fn cheaper(best: Best, rate: u8, depth: u8, cost: u16) -> Best {

@@ -19,6 +19,7 @@ pub fn record_runs(trace: &[u16], tariff: Tariff, firsts: &[u32]) -> Records
 {
     let mut records = Records::new();
     let mut start = 0;
+    // where the next run starts is known only once this one is, so no range or slice gives the turns
     while start < trace.len() {
         let periods = firsts[start];
         let end = start + periods as usize;

@@ -27,11 +27,10 @@ pub fn cut_suffixes(
     ensures { Kept tariff trace.now 0 costs.new counts.new firsts.new }
 {
     let end = trace.len() + 1;
-    let mut next = trace.len();
     let far = [FAR; TRACE_LIMIT];
     let mut begin = Rate(0);
-    while 0 < next {
-        let start = next - 1;
+    for start in (0..trace.len()).rev() {
+        let next = start + 1;
         let best = best_first(
             &trace[start..],
             tariff,
@@ -44,6 +43,5 @@ pub fn cut_suffixes(
         counts[start] = best.outline.buckets;
         firsts[start] = best.outline.first;
         begin = best.rate;
-        next = start;
     }
 }

@@ -3,10 +3,9 @@ ghost use Rattle.std.specs.Prelude.{◌≡◌, length};
 
 use crate::answers::into;
 use samples::file_bytes::{LENT_BYTES, front};
+use std::array;
 
-const FIGURES: usize = 600;
-
-// A digit and a newline for each.
+// 600 figures, a digit and a newline for each.
 const TEXT_BYTES: usize = 1200;
 
 // The first bytes of such a text.
@@ -20,9 +19,5 @@ pub fn first_bytes(rt: &impl Print, name: &[u8], length: usize) {
 fn lines() -> [u8; TEXT_BYTES]
     ensures { 1200 ≡ length result }
 {
-    let mut text = [10; TEXT_BYTES];
-    for i in 0..FIGURES {
-        text[2 * i] = (48 + i % 10) as u8;
-    }
-    text
+    array::from_fn(|i| if i % 2 == 0 { (48 + i / 2 % 10) as u8 } else { b'\n' })
 }

@@ -47,7 +47,7 @@ fn case(rt: &impl Print, line: &[u8]) {
 
 // How many bytes are lent: so many, or more than any order needs.
 fn room(field: &[u8]) -> usize {
-    if field.len() == 0 {
+    if field.is_empty() {
         return LENT_BYTES;
     }
     number(field) as usize

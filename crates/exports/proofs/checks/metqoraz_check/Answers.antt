@@ -6,17 +6,17 @@ use Rattle.exports.specs.LentNumberLaws.{code_refused, code_found, excess_is}
 use borrow.Author.Rules.{rules}
 use Rattle.exports.proofs.checks.metqoraz_check.Goals as goal
 
-pub returns-in-No : goal.returns-in-No
-returns-in-No c =
-    let e = sym c.check.ensures ∙ ap check_says c.in-No.is in
+pub returns-in-Ok-No : goal.returns-in-Ok-No
+returns-in-Ok-No c =
+    let e = sym (rw c.in-Ok-No.field-0-is at c.in-Ok-No.ensures) in
     record { value = code_found _ verdict_code _ e; excess_after = excess_is _ _ e _ }
 
 pub returns-in-Err : goal.returns-in-Err
 returns-in-Err c =
-    let e = sym c.check.ensures ∙ ap check_says c.in-Err.is in
+    let e = sym c.in-Err.ensures in
     record { value = code_refused _ verdict_code _ _ e c.coded_refusal.ensures; excess_after = excess_is _ _ e _ }
 
-pub returns : goal.returns
-returns c =
-    let e = sym c.check.ensures ∙ ap check_says c.in-Yes.is in
+pub returns-in-Ok-Yes : goal.returns-in-Ok-Yes
+returns-in-Ok-Yes c =
+    let e = sym (rw c.in-Ok-Yes.field-0-is at c.in-Ok-Yes.ensures) in
     record { value = code_found _ verdict_code _ e; excess_after = excess_is _ _ e _ }

@@ -27,4 +27,4 @@ returns c =
     let room : c.min-room.result ≡ room_of s.runs.now s.rates.now s.depths.now = omega (arith, c.min-room.ensures, c.min.ensures) in
     let stored = rw c.as_slice.ensures.items at c.store_figures.ensures in
     let all = plan-read s.plan.now old _ room _ c.in-Ok.ensures.result_value _ stored s.periods.now s.buckets.now in
-    rw c.figures.ensures (record { value = all.0; periods_after = all.1.0; buckets_after = all.1.1.0; filled = all.1.1.1 })
+    rw c.figures-figures.ensures (record { value = all.0; periods_after = all.1.0; buckets_after = all.1.1.0; filled = all.1.1.1 })

@@ -1,7 +1,6 @@
 -- Where the opening is as it was, the law of a raised stretch by cases: it is above the cap, or not.
 use Rattle.first_runs.specs.ChargeLaws.{depth_above, depth_raised}
 use Rattle.terms.specs.Answer.{figures}
-use borrow.Author.Rules.{rules}
 use mathlib.Core.Path.{ap, ◌∙◌}
 use Rattle.first_runs.proofs.charges.depth_after.Goals as goal
 

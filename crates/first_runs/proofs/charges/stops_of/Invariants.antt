@@ -1,16 +1,10 @@
 -- From the last entry to the first: each is the greatest of the charges found from there on.
-use Prim.Native.Nat.{ℕ, suc, ◌+◌, ◌-◌, ◌*◌, ◌≤◌, ◌<◌, max}
-use Rattle.first_runs.specs.Charge.{Stops, StopsAt}
-use Rattle.first_runs.specs.ChargeLaws.{Stopping, stopping_start, stopping_more, stopping_end}
-use Rattle.single.specs.Cost.{billed, cost_at}
+use Prim.Native.Nat.{ℕ, ◌≤◌}
+use Rattle.first_runs.specs.ChargeLaws.{Stopping}
 use Rattle.terms.specs.declared.Tariff.{Tariff}
-use Rattle.terms.specs.Limits.{trace_limit}
-use borrow.Author.Rules.{rules}
-use lib.ListN.{length, get_or, set, replicate, length-set}
+use lib.ListN.{length}
 use mathlib.Core.List.{List}
-use mathlib.Core.Path.{◌≡◌, refl, sym, subst, ◌∙◌}
-use native.Mathlib.Nat.{le_refl}
-use native.Mathlib.Omega.{arith}
+use mathlib.Core.Path.{◌≡◌}
 use Rattle.first_runs.proofs.charges.stops_of.Given as goal
 
 pub record Filling (t : Tariff) (known : ℕ) (costs stops : List ℕ) (charge periods : ℕ) : Type 0 where

@@ -1,6 +1,5 @@
 -- The definition by cases.
 use Rattle.first_runs.specs.Outline.{better_choice}
-use borrow.Author.Rules.{rules}
 use Rattle.first_runs.proofs.outlines.better_of.Goals as goal
 
 pub returns-then-is_ahead : goal.returns-then-is_ahead

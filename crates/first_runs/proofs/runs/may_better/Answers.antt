@@ -1,12 +1,9 @@
 -- After i turns no run of 1 to i periods at these rates is chosen before what is found; where the walk stops,
 -- no longer one is.
-use Prim.Native.Nat.{◌-◌, ◌<◌}
+use Prim.Native.Nat.{◌<◌}
 use Rattle.first_runs.specs.ChargeLaws.{walked_start, walked-room}
-use Rattle.first_runs.specs.WeighLaws.{Passing, charge_limit, passing_start, passing_next, passing_stop, passing_end}
+use Rattle.first_runs.specs.WeighLaws.{charge_limit, passing_start, passing_next, passing_stop}
 use Rattle.bucket.specs.Trace.{Demands}
-use borrow.Author.Rules.{rules}
-use lib.ListN.{length}
-use mathlib.Core.Bool.{true≢false}
 use native.Mathlib.Nat.{le_trans}
 use native.Mathlib.Omega.{arith}
 use Rattle.first_runs.proofs.runs.may_better.Goals as goal
@@ -30,13 +27,7 @@ cost_with-requires c =
     let period : c.loop-i.i < 512 = omega (arith, c.loop-i-test.true, c.requires.searching.rests.few) in
     let k = c.requires.searching in record { tariff_range = k.rests.tariffs; i_lt_trace_limit = period; charge_le_period_limit = charge_limit _ _ _ _ _ _ k _ _ _ _ _ c.loop-i.invariant.walk c.loop-i-test.true c.push-walk.ensures (le_trans c.requires.low_le_high c.requires.high_bound) c.if-stops-i.false; rest_le_unpriced = k.rests.cost _ c.loop-i-test.true }
 
-pub returns-then-cost_with-found : goal.returns-then-cost_with-found
-returns-then-cost_with-found c = λ e. absurd (true≢false e)
-
 pub loop-i-preserved : goal.loop-i-preserved
 loop-i-preserved c =
     let k = c.requires.searching in
     passing_next _ _ _ _ _ _ k _ _ _ _ _ c.loop-i.invariant c.loop-i-test.true c.push-walk.ensures c.if-stops-i.false (omega (arith, c.if-cost_with-found.false, c.cost_with.ensures))
-
-pub returns : goal.returns
-returns c = λ e. passing_end _ _ _ _ _ _ c.requires.searching _ _ _ _ c.loop-i.invariant c.loop-i-test.false

@@ -1,10 +1,8 @@
 -- After i turns the runs of 1 to i periods are weighed at this rate; where the walk stops, the longer ones cost more.
-use Prim.Native.Nat.{◌-◌, ◌<◌}
+use Prim.Native.Nat.{◌<◌}
 use Rattle.first_runs.specs.ChargeLaws.{walked_start, walked-room}
-use Rattle.first_runs.specs.WeighLaws.{Weighing, charge_limit, weighing_start, weighing_next, weighing_stop, weighing_end}
+use Rattle.first_runs.specs.WeighLaws.{charge_limit, weighing_start, weighing_next, weighing_stop}
 use Rattle.bucket.specs.Trace.{Demands}
-use borrow.Author.Rules.{rules}
-use lib.ListN.{length}
 use native.Mathlib.Nat.{le_trans}
 use native.Mathlib.Omega.{arith}
 use Rattle.first_runs.proofs.runs.weigh_rate.Goals as goal
@@ -31,6 +29,3 @@ cost_with-cost-requires c =
 
 pub loop-i-preserved : goal.loop-i-preserved
 loop-i-preserved c = weighing_next _ _ _ _ _ _ c.requires.searching _ _ _ _ c.loop-i.invariant _ c.loop-i-test.true c.push-walk.ensures c.requires.rate_bound c.if-stops-i.false _ c.cost_with-cost.ensures _ c.better_of-best.ensures
-
-pub returns : goal.returns
-returns c = weighing_end _ _ _ _ _ _ c.requires.searching _ _ _ _ c.loop-i.invariant c.loop-i-test.false

@@ -1,15 +1,9 @@
 -- Either none of the rates can better what is found, or after each turn the rates below the next are weighed.
-use Prim.Native.Nat.{◌-◌}
-use Rattle.first_runs.specs.SearchLaws.{Turns, searching_on, turns_end, weighed_none, weighed-over, weighed_then}
-use Rattle.terms.specs.Bools.{check_failed}
-use borrow.Author.Rules.{rules}
+use Rattle.first_runs.specs.SearchLaws.{searching_on, weighed_none, weighed-over, weighed_then}
 use mathlib.Core.Path.{refl}
 use native.Mathlib.Omega.{arith}
 use mathlib.Core.Path.{sym, ◌∙◌}
 use Rattle.first_runs.proofs.runs.weigh_rates.Goals as goal
-
-pub may_better-requires : goal.may_better-requires
-may_better-requires c = record { low_le_high = omega (arith, c.requires.low_lt_end); high_bound = omega (arith, c.requires.low_lt_end, c.requires.end_bound); searching = c.requires.searching }
 
 pub returns-then-not-may_better : goal.returns-then-not-may_better
 returns-then-not-may_better c = weighed-over _ _ _ _ _ _ _ (omega (arith, c.requires.low_lt_end)) c.requires.searching _ ((sym refl ∙ c.if-not-may_better.true)) c.may_better.ensures
@@ -24,6 +18,3 @@ pub loop-next-preserved : goal.loop-next-preserved
 loop-next-preserved c =
     let k = c.loop-next.invariant in
     record { inside = omega (arith, c.loop-next-test.true); weighed = weighed_then _ _ _ _ k.weighed c.weigh_rate-best.ensures }
-
-pub returns : goal.returns
-returns c = turns_end _ _ _ _ _ _ _ _ _ _ refl c.loop-next.invariant c.loop-next-test.false

@@ -25,8 +25,8 @@ returns-then-at-le-TARIFF_FIGURES-clause-figures_after c =
     let xs = c.close.new.figures in
     let same = c.close.auto.figures ∙ c.scan.auto.figures ∙ c.requires in
     let n = count-is at xs c.in_ok-at-2.ensures.step_fits same in
-    let reads = text_closed _ _ _ (sym c.in_ok-at.ensures.figures_after) (sym c.in_ok-at-2.ensures.figures_after) in
     let few = enough-few (scan_of at xs) (omega (arith, n, c.if-at-le-TARIFF_FIGURES.true)) in
+    let reads = text_closed _ _ _ (sym c.in_ok-at.ensures.figures_after) (sym c.in_ok-at-2.ensures.figures_after) in
     ap (on_read (λ s. s.figures)) (c.fault_at.ensures.says xs same) ∙ sym (reads ∙ few)
 
 pub returns-clause-figures_after : goal.returns-clause-figures_after
@@ -35,5 +35,6 @@ returns-clause-figures_after c =
     let xs = c.close.new.figures in
     let same = c.close.auto.figures ∙ c.scan.auto.figures ∙ c.requires in
     let n = count-is at xs c.in_ok-at-2.ensures.step_fits same in
+    let all = enough_all (scan_of at xs) (omega (arith, n, c.if-at-le-TARIFF_FIGURES.false)) in
     let reads = text_closed _ _ _ (sym c.in_ok-at.ensures.figures_after) (sym c.in_ok-at-2.ensures.figures_after) in
-    sym (reads ∙ enough_all (scan_of at xs) (omega (arith, n, c.if-at-le-TARIFF_FIGURES.false)))
+    sym (reads ∙ all)

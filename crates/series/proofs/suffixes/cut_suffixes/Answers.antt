@@ -1,6 +1,7 @@
 -- Each turn puts the outline from one period earlier on before those that are kept.
 use Prim.Native.Nat.{ℕ, suc, ◌+◌, ◌-◌, ◌≤◌, ◌<◌}
 use native.Mathlib.Omega.{arith}
+use native.Mathlib.Numerals.{add-one}
 use Rattle.series.specs.Outline.{outline_of}
 use Rattle.series.specs.Series.{cheapest_cut}
 use Rattle.series.specs.SuffixLaws.{Kept, Left, far_all, kept-left, kept_more, left-rests, search_found}
@@ -24,11 +25,11 @@ module _ (t : Tariff) (ds costs₀ counts₀ firsts₀ : List ℕ) (next : ℕ) 
   kept_next : Kept t ds (suc (next - 1)) costs counts firsts
   kept_next = subst (λ (n : ℕ). Kept t ds n costs counts firsts) (sym one-before) k.kept
 
-  left : Left t (take (length ds - (next - 1)) (drop (next - 1) ds)) (take (length ds + 1 - next) (drop next costs)) (take (length ds + 1 - next) (drop next counts))
+  left : Left t (take (length ds - (next - 1)) (drop (next - 1) ds))
+      (take (length ds + 1 - (next - 1 + 1)) (drop (next - 1 + 1) costs)) (take (length ds + 1 - (next - 1 + 1)) (drop (next - 1 + 1) counts))
   left =
-      subst (λ (es : List ℕ). Left t es (take (length ds + 1 - next) (drop next costs)) (take (length ds + 1 - next) (drop next counts))) (sym (part_to_end ds (next - 1)))
-      (subst (λ (n : ℕ). Left t (drop (next - 1) ds) (take (length ds + 1 - n) (drop n costs)) (take (length ds + 1 - n) (drop n counts))) one-before
-      (kept-left t ds (next - 1) (omega (arith, k.inside)) costs counts firsts kept_next))
+      let kept = kept-left t ds (next - 1) (omega (arith, k.inside)) costs counts firsts kept_next in
+      rw (part_to_end ds (next - 1), add-one (next - 1)) kept
 
   step : (c : Choice) → c.outline ≡ outline_of t (cheapest_cut t (take (length ds - (next - 1)) (drop (next - 1) ds))) → c.rate.0 ≤ t.rate_cap.0 → let o = c.outline in
       Keeping t ds costs₀ counts₀ firsts₀ (next - 1) (set costs (next - 1) o.cost) (set counts (next - 1) o.buckets) (set firsts (next - 1) o.first) c.rate
@@ -56,16 +57,16 @@ end t ds costs₀ counts₀ firsts₀ next costs counts firsts begin k l =
 
 pub best_first-best-requires : goal.best_first-best-requires
 best_first-best-requires c =
-    let k = c.loop-next.invariant in
-    record { begin_bound = k.rate; far = far_all; rests = left-rests _ c.requires.tariff_range _ (few-left c.args.trace.now (c.loop-next.next - 1) c.requires.trace_len_bound) _ _ (left _ _ _ _ _ _ _ _ _ _ k c.loop-next-test.true) }
+    let k = c.loop-start.invariant in
+    record { begin_bound = k.rate; far = far_all; rests = left-rests _ c.requires.tariff_range _ (few-left c.args.trace.now (c.loop-start.start - 1) c.requires.trace_len_bound) _ _ (left _ _ _ _ _ _ _ _ _ _ k c.loop-start-test.true) }
 
-pub loop-next-preserved : goal.loop-next-preserved
-loop-next-preserved c =
-    let k = c.loop-next.invariant in
+pub loop-start-preserved : goal.loop-start-preserved
+loop-start-preserved c =
+    let k = c.loop-start.invariant in
     let f = c.best_first-best.ensures in
-    step _ _ _ _ _ _ _ _ _ _ k c.loop-next-test.true _
-    (search_found _ c.requires.tariff_range _ (few-left c.args.trace.now (c.loop-next.next - 1) c.requires.trace_len_bound) _ _ (left _ _ _ _ _ _ _ _ _ _ k c.loop-next-test.true) _ f)
+    step _ _ _ _ _ _ _ _ _ _ k c.loop-start-test.true _
+    (search_found _ c.requires.tariff_range _ (few-left c.args.trace.now (c.loop-start.start - 1) c.requires.trace_len_bound) _ _ (left _ _ _ _ _ _ _ _ _ _ k c.loop-start-test.true) _ f)
     f.rate
 
 pub returns : goal.returns
-returns c = end _ _ _ _ _ _ _ _ _ _ c.loop-next.invariant c.loop-next-test.false
+returns c = end _ _ _ _ _ _ _ _ _ _ c.loop-start.invariant c.loop-start-test.false

@@ -23,8 +23,5 @@ pub record Keeping (t : Tariff) (ds costs₀ counts₀ firsts₀ : List ℕ) (ne
   pub firsts_same : length firsts ≡ length firsts₀
   pub kept : Kept t ds next costs counts firsts
 
-abbrev pub invariant-loop-next : goal.invariant-loop-next
-invariant-loop-next l = Keeping l.tariff l.trace l.initial.costs l.initial.counts l.initial.firsts l.next l.costs l.counts l.firsts l.begin
-
-abbrev pub decreases-loop-next : goal.decreases-loop-next
-decreases-loop-next l = l.next
+abbrev pub invariant-loop-start : goal.invariant-loop-start
+invariant-loop-start l = Keeping l.tariff l.trace l.initial.costs l.initial.counts l.initial.firsts l.start l.costs l.counts l.firsts l.begin

@@ -1,9 +1,0 @@
--- A depth is its own number, and a refusal has the number of its own call.
-use mathlib.Core.Path.{sym, ap, ◌∙◌}
-use Rattle.depth.specs.Depth.{depth_says}
-use Rattle.exports.specs.Answers.{coded}
-use borrow.Author.Rules.{rules}
-use Rattle.exports.proofs.answers.coded_depth.Goals as goal
-
-pub returns-in-Err : goal.returns-in-Err
-returns-in-Err c = c.coded_refusal.ensures ∙ sym (ap (λ x. coded (depth_says x)) c.in-Err.is)

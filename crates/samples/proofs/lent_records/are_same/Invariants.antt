@@ -1,9 +1,0 @@
--- Each record from the start on is compared at most once.
-use Prim.Native.Nat.{◌-◌, ◌≤◌}
-use Rattle.samples.proofs.lent_records.are_same.Given as goal
-
-abbrev pub invariant-loop-i : goal.invariant-loop-i
-invariant-loop-i l = l.start ≤ l.i
-
-abbrev pub decreases-loop-i : goal.decreases-loop-i
-decreases-loop-i l = 516 - l.i
