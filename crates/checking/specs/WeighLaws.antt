@@ -2,14 +2,14 @@
 -- sum.
 -- Assumes nothing.
 use Rattle.std.specs.Prelude.{ℕ, ◌+◌, ◌-◌, ◌*◌, ◌≤◌, ◌<◌, ◌≡◌, refl, Bool, false, ◌&&◌, eqb, length, take, drop, get_or}
-use Rattle.std.proofs.Common.{arith, zero-add, ◌∙◌, length-take, length-drop, drop-drop}
+use Rattle.std.proofs.Common.{arith, zero-add, ◌∙◌, drop-drop}
 use Rattle.std.proofs.Math.Path.{sym, ap, ap₂}
 use Rattle.std.proofs.Math.Bool.{true}
 use mathlib.Core.List.{List, ◌∷◌}
 use Rattle.terms.specs.declared.BucketRecord.{BucketRecord}
 use Rattle.terms.specs.declared.Tariff.{Tariff}
-use Rattle.terms.specs.Limits.{fee_limit, trace_limit}
-use Rattle.terms.specs.RangeRules.{BucketRange, FreshRange, PeriodsRange, RecordRange, TariffRange}
+use Rattle.terms.specs.Limits.{fee_limit}
+use Rattle.terms.specs.RangeRules.{PeriodsRange, RecordRange, TariffRange}
 use Rattle.terms.specs.Records.{Cutting, run_length, total}
 use Rattle.single.specs.Cost.{cost_of}
 use Rattle.single.specs.CostLaws.{period_limit, cost-le}
