@@ -1,8 +1,8 @@
 -- A plan's runs weighed one after the other beside the trace: those that are left decide, and their costs complete the
 -- sum.
 -- Assumes nothing.
-use Rattle.std.specs.Prelude.{ℕ, ◌+◌, ◌-◌, ◌*◌, ◌≤◌, ◌<◌, ◌≡◌, refl, Bool, false, ◌&&◌, eqb, length, take, drop, get_or}
-use Rattle.std.proofs.Common.{arith, zero-add, ◌∙◌, drop-drop}
+use Rattle.std.specs.Prelude.{ℕ, ◌+◌, ◌-◌, ◌*◌, ◌≤◌, ◌<◌, ◌≡◌, Bool, false, ◌&&◌, eqb, length, take, drop, get_or}
+use Rattle.std.proofs.Common.{arith, ◌∙◌, drop-drop}
 use Rattle.std.proofs.Math.Path.{sym, ap, ap₂}
 use Rattle.std.proofs.Math.Bool.{true}
 use mathlib.Core.List.{List, ◌∷◌}
@@ -15,7 +15,7 @@ use Rattle.single.specs.Cost.{cost_of}
 use Rattle.single.specs.CostLaws.{period_limit, cost-le}
 use Rattle.series.specs.Series.{true_cost_of}
 use Rattle.record_list.specs.Held.{no_record}
-use Rattle.record_list.specs.PartLaws.{Begins, first_begins, next_begins, part-is, rest_next, rest_none, run_inside}
+use Rattle.record_list.specs.PartLaws.{Begins, next_begins, part-is, rest_next, rest_none, run_inside}
 use Rattle.plan_file.specs.declared.answers.Recorded.{Recorded}
 use Rattle.plan_file.specs.RecordLaws.{RecordsRange}
 use Rattle.checking.specs.Check.{plan_ok, run_ok, runs_ok}
@@ -36,9 +36,6 @@ module _ (t : Tariff) (ds : List ℕ) (plan : Recorded) where
     pub small : cost ≤ (period_limit + fee_limit) * start
     pub costs : cost + true_cost_of t (drop i records) ≡ true_cost_of t records
     pub left : runs_ok t (drop start ds) (drop i records) ≡ runs_ok t ds records
-
-  pub none_weighed : Weighable t ds plan → Weighing 0 0 0
-  none_weighed h = record { begins = first_begins records ds h.ranges.sum; small = omega arith; costs = zero-add _; left = refl }
 
   -- xs are the records as they are gone through
   module _ (xs : Cutting) (e : xs ≡ records) {cost start i : ℕ} (s : Weighing cost start i) where
