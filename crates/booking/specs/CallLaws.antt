@@ -17,7 +17,7 @@ use Rattle.planning.specs.Planning.{Planned, planned, planned_order}
 use Rattle.planning.specs.PlannedLaws.{IsPlanned, planned-cheapest}
 use Rattle.planning.specs.CallLaws.{plan-refused, the_plan, plan-found, plan_order_lem, plan-is}
 use Rattle.recording.specs.declared.recorded.BookingRecords.{BookingRecords}
-use Rattle.recording.specs.Recording.{Recording, recording, written, booked}
+use Rattle.recording.specs.Recording.{Recording, recording, written, booking_records}
 use Rattle.recording.specs.RecordingLaws.{RecordsPlan}
 use Rattle.booking.specs.declared.calls.BookedRecords.{BookedRecords}
 use Rattle.booking.specs.Booking.{Lent, Steps, plan_figures, answer_of}
@@ -123,7 +123,7 @@ module _ (bs : List ℕ) (entries room : ℕ) (bytes : List ℕ) (space : ℕ) w
     abbrev booked_with : BookingRecords → BookedRecords
     booked_with b = record { booking = b.booking; order = p.order; plan = p.records; back = b.records }
 
-    booked-is : (a : Answer Recording) → on_figures booked_with (on_figures booked a) ≡ on_figures booked_records (on_figures steps_with a)
+    booked-is : (a : Answer Recording) → on_figures booked_with (on_figures booking_records a) ≡ on_figures booked_records (on_figures steps_with a)
     booked-is (figures y) = refl
     booked-is (refused n) = refl
 

@@ -1,13 +1,11 @@
 -- A plan checked against an order, whichever planning house made it (02, job 1; refusal 10).
 -- Assumes nothing.
-use Rattle.std.specs.Prelude.{Result, ℕ, ◌-◌, Bool, true, cond, ◌&&◌, List, [], ◌∷◌, leb, eqb, take, drop}
+use Rattle.std.specs.Prelude.{ℕ, ◌-◌, Bool, true, cond, ◌&&◌, List, [], ◌∷◌, leb, eqb, take, drop}
 use Rattle.terms.specs.declared.Bucket.{Bucket}
 use Rattle.terms.specs.declared.Tariff.{Tariff}
 use Rattle.terms.specs.Answer.{Answer, figures, refused, weigh, on_figures, and_then}
 use Rattle.terms.specs.Limits.{trace_limit}
 use Rattle.terms.specs.Records.{Cutting, run_length}
-use Rattle.terms.specs.declared.refusal.Refusal.{Refusal}
-use Rattle.terms.specs.Refusals.{says}
 use Rattle.bucket.specs.Trace.{carries}
 use Rattle.series.specs.Series.{true_cost_of, series_of}
 use Rattle.order_file.specs.Order.{order_end}
@@ -16,13 +14,8 @@ use Rattle.plan_file.specs.declared.answers.Recorded.{Recorded}
 use Rattle.plan_file.specs.Plan.{plan_in}
 use Rattle.text.specs.Lines.{yes_line, no_line}
 use Rattle.text.specs.Fitted.{fitted}
-use Rattle.checking.specs.declared.verdicts.Verdict.{Verdict as Said}
+use Rattle.checking.specs.declared.verdicts.Verdict.{Verdict}
 use Rattle.checking.specs.declared.verdicts.Verdict.TheVariants.{Yes, No}
-
--- What is said of a plan: yes, with its excess, or no.
-pub data Verdict : Type 0 where
-  yes : ℕ → Verdict
-  no : Verdict
 
 -- ---- Whether a plan holds
 
@@ -48,12 +41,12 @@ least_cost t ds = on_figures (true_cost_of t) (series_of t trace_limit ds)
 
 -- The excess over the least; where there is no least there is no plan, and none holds.
 abbrev pub excess_over : Answer ℕ → ℕ → Verdict
-excess_over (figures least) cost = yes (cost - least)
-excess_over (refused n) cost = no
+excess_over (figures least) cost = Yes (cost - least)
+excess_over (refused n) cost = No
 
 -- A yes is given exactly when the plan holds, and the excess with a yes only.
 abbrev pub verdict_of : Tariff → List ℕ → Recorded → Verdict
-verdict_of t ds plan = cond (plan_ok t ds plan) (excess_over (least_cost t ds) plan.cost) no
+verdict_of t ds plan = cond (plan_ok t ds plan) (excess_over (least_cost t ds) plan.cost) No
 
 -- ---- The two files
 
@@ -65,20 +58,12 @@ compared x plan = weigh (eqb plan.periods x.order.periods) 10 (figures (verdict_
 abbrev pub check_of : List ℕ → List ℕ → Answer Verdict
 check_of order plan = and_then (ordered trace_limit order) (λ x. and_then (plan_in plan) (compared x))
 
--- Each case of the answer in document 02's values and numbers.
-abbrev pub verdict_says : Said → Verdict
-verdict_says (Yes excess) = yes excess
-verdict_says No = no
-
-abbrev pub check_says : Result Said Refusal → Answer Verdict
-check_says r = on_figures verdict_says (says r)
-
 -- ---- As a line
 
 -- The word yes, a space and the excess, or no.
 abbrev pub verdict_line : Verdict → List ℕ
-verdict_line (yes excess) = yes_line excess
-verdict_line no = no_line
+verdict_line (Yes excess) = yes_line excess
+verdict_line No = no_line
 
 -- The line in `room` bytes: the same refusals, then 6.
 abbrev pub check_in : ℕ → List ℕ → List ℕ → Answer (List ℕ)

@@ -21,7 +21,9 @@ use Rattle.plan_file.specs.PlanRules.{read_range}
 use Rattle.plan_file.specs.RecordLaws.{RecordsRange}
 use Rattle.booking.specs.BookingLaws.{order-spread}
 use Rattle.booking.specs.Claim.{periods_in, demands_at, CarriedIn, cost_in}
-use Rattle.checking.specs.Check.{Verdict, yes, no, plan_ok, least_cost, excess_over, verdict_of, compared, check_of, check_in, check_files}
+use Rattle.checking.specs.declared.verdicts.Verdict.{Verdict}
+use Rattle.checking.specs.declared.verdicts.Verdict.TheVariants.{Yes, No}
+use Rattle.checking.specs.Check.{plan_ok, least_cost, excess_over, verdict_of, compared, check_of, check_in, check_files}
 use Rattle.checking.specs.VerdictLaws.{IsLeast, holds-is, holds-least, is-holds, least-found, least-is, no-yes, yes_of}
 
 module _ (order : List ℕ) where
@@ -90,18 +92,18 @@ module _ (order : List ℕ) where
           ∙ ap (λ (ok : Bool). weigh ok 10 (figures (verdict_of t ds y))) (eq-eqb _ _ g)
 
       -- An order without any plan says no to every plan, and never 7.
-      pub none_no : ((xs : Cutting) → CarriedIn order xs → ⊥) → check_of order plan ≡ figures no
+      pub none_no : ((xs : Cutting) → CarriedIn order xs → ⊥) → check_of order plan ≡ figures No
       none_no none = check_is ∙ ap figures (go (plan_ok t ds y) refl)
         where
-          go : (ok : Bool) → plan_ok t ds y ≡ ok → verdict_of t ds y ≡ no
+          go : (ok : Bool) → plan_ok t ds y ≡ ok → verdict_of t ds y ≡ No
           go true h = absurd (none y.buckets (holds-is t ds y plan_range h).carried)
-          go false h = ap (λ (ok : Bool). cond ok (excess_over (least_cost t ds) y.cost) no) h
+          go false h = ap (λ (ok : Bool). cond ok (excess_over (least_cost t ds) y.cost) No) h
 
     -- ---- A yes is given exactly when all of it holds
 
-    module _ (n : ℕ) (e : check_of order plan ≡ figures (yes n)) where
-      abbrev given : Judged (yes n)
-      given = judged (yes n) e
+    module _ (n : ℕ) (e : check_of order plan ≡ figures (Yes n)) where
+      abbrev given : Judged (Yes n)
+      given = judged (Yes n) e
 
       found : (plan_ok t ds given.stated ≡ true) × ((m : ℕ) × (least_cost t ds ≡ figures m) × (given.stated.cost - m ≡ n))
       found = yes_of t ds given.stated (plan_ok t ds given.stated) (least_cost t ds) n given.verdict
@@ -125,7 +127,7 @@ module _ (order : List ℕ) where
           (m, ap (λ (z : Recorded). cost_in order z.buckets) (sym same) ∙ cost, least-is t ds m l)
 
     module _ (o : Order) (e : read_order order ≡ figures o) (r : Right) where
-      pub yes_always : (n : ℕ) × (check_of order plan ≡ figures (yes n))
+      pub yes_always : (n : ℕ) × (check_of order plan ≡ figures (Yes n))
       yes_always =
           let y = r.stated in
           let range = ordered_range (is-spread o e) in
@@ -133,14 +135,14 @@ module _ (order : List ℕ) where
           let h = is-holds t ds y (record { carried = r.carried; true_cost = r.true_cost }) in (
             y.cost - l.0,
             check_is o e y r.is_read r.same_periods
-                ∙ ap₂ (λ (ok : Bool) (a : Answer ℕ). figures (cond ok (excess_over a y.cost) no)) h l.1,
+                ∙ ap₂ (λ (ok : Bool) (a : Answer ℕ). figures (cond ok (excess_over a y.cost) No)) h l.1,
           )
 
-      pub no_only : check_of order plan ≡ figures no → ⊥
+      pub no_only : check_of order plan ≡ figures No → ⊥
       no_only f = no-yes (same-figures (sym f ∙ yes_always.1))
 
       -- A plan that is right, and no dearer than any that is carried, has no excess.
-      pub least-yes : ((ys : Cutting) → CarriedIn order ys → r.stated.cost ≤ cost_in order ys) → check_of order plan ≡ figures (yes 0)
+      pub least-yes : ((ys : Cutting) → CarriedIn order ys → r.stated.cost ≤ cost_in order ys) → check_of order plan ≡ figures (Yes 0)
       least-yes no-dearer =
           let a = yes_always in
           let n = a.0 in
@@ -149,7 +151,7 @@ module _ (order : List ℕ) where
           let cost : r.stated.cost ≡ m + n = r.true_cost ∙ b.1 in
           let x = b.2.reached in
           let zero : n ≡ 0 = omega (arith, cost, x.2, no-dearer x.0 x.1) in
-          a.1 ∙ ap (λ (k : ℕ). figures (yes k)) zero
+          a.1 ∙ ap (λ (k : ℕ). figures (Yes k)) zero
 
 -- ---- One file behind the other
 

@@ -16,7 +16,8 @@ use Rattle.plan_file.specs.declared.answers.Recorded.{Recorded}
 use Rattle.plan_file.specs.Plan.{longest_plan, plan_in}
 use Rattle.plan_file.specs.PlanLaws.{long_more as long_plan}
 use Rattle.text.specs.Fitted.{fitted}
-use Rattle.checking.specs.Check.{Verdict, verdict_line, compared, check_of, check_in, check_files}
+use Rattle.checking.specs.declared.verdicts.Verdict.{Verdict}
+use Rattle.checking.specs.Check.{verdict_line, compared, check_of, check_in, check_files}
 
 -- The longest order.
 abbrev longest_order : ℕ

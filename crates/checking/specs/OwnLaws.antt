@@ -21,14 +21,15 @@ use Rattle.booking.specs.CallLaws.{Sizes, sizes_of}
 use Rattle.booking.specs.Claim.{cost_in, Claim}
 use Rattle.booking.specs.ClaimLaws.{booked-sizes}
 use Rattle.booking.specs.StepLaws.{Found, found-recorded, steps-found}
-use Rattle.checking.specs.Check.{yes, check_of}
+use Rattle.checking.specs.declared.verdicts.Verdict.TheVariants.{Yes}
+use Rattle.checking.specs.Check.{check_of}
 use Rattle.checking.specs.CheckLaws.{Right, least-yes}
 
 -- A plan found for an order, as a file that holds it reads.
 abbrev pub own_plan : Planned → Recorded
 own_plan x = record { periods = x.order.periods; cost = true_cost_of x.order.tariff x.cutting; buckets = x.cutting }
 
-pub planned-yes : {space room : ℕ} {order : List ℕ} {x : Planned} → IsPlanned space room order x → (plan : List ℕ) → plan_in plan ≡ figures (own_plan x) → check_of order plan ≡ figures (yes 0)
+pub planned-yes : {space room : ℕ} {order : List ℕ} {x : Planned} → IsPlanned space room order x → (plan : List ℕ) → plan_in plan ≡ figures (own_plan x) → check_of order plan ≡ figures (Yes 0)
 planned-yes {space} {room} {order} {x} is plan e =
     let o = ordered_as is.as_ordered in
     let s = planned-series is in
@@ -59,7 +60,7 @@ module _ (order : List ℕ) (old after : Lent) (answer : Answer Booking) (claim 
       ∙ ap (λ (x : Booking). take x.length (lent_after (figures s) old).bytes) (sym given.2)
       ∙ filled-front s.recording.file old.bytes
 
-  pub booked-yes : check_of order recorded_file ≡ figures (yes 0)
+  pub booked-yes : check_of order recorded_file ≡ figures (Yes 0)
   booked-yes =
       planned-yes (is-planned z.demands z.plan order s.planning steps.is_plan) recorded_file
       (ap plan_in file-is ∙ read-holds z.back s.recording.file s.recording.plan steps.is_read ∙ ap figures (found-recorded order z s steps))

@@ -23,7 +23,8 @@ use Rattle.series.specs.Series.{Carried, found_of, true_cost_of, series_of}
 use Rattle.series.specs.SeriesLaws.{series-cheapest, series_none, series_refuses}
 use Rattle.plan_file.specs.declared.answers.Recorded.{Recorded}
 use Rattle.plan_file.specs.RecordLaws.{RecordsRange}
-use Rattle.checking.specs.Check.{yes, no, run_ok, runs_ok, plan_ok, least_cost, excess_over}
+use Rattle.checking.specs.declared.verdicts.Verdict.TheVariants.{Yes, No}
+use Rattle.checking.specs.Check.{run_ok, runs_ok, plan_ok, least_cost, excess_over}
 
 -- ---- The runs
 
@@ -78,7 +79,7 @@ module _ (t : Tariff) (ds : List ℕ) where
 
 -- ---- The verdict
 
-pub no-yes : {n : ℕ} → no ≡ yes n → ⊥
+pub no-yes : {n : ℕ} → No ≡ Yes n → ⊥
 no-yes e = let z : ◌≡◌ {A = ℕ} 0 1 = cc in omega arith
 
 module _ (t : Tariff) (ds : List ℕ) (plan : Recorded) where
@@ -101,7 +102,7 @@ module _ (t : Tariff) (ds : List ℕ) (plan : Recorded) where
       let k = holds-is r h in
       subst (λ (n : ℕ). m ≤ n) (sym k.true_cost) ((least-is t ds m e).least plan.buckets k.carried)
 
-  pub yes_of : (ok : Bool) (a : Answer ℕ) (n : ℕ) → cond ok (excess_over a plan.cost) no ≡ yes n → (ok ≡ true) × ((m : ℕ) × (a ≡ figures m) × (plan.cost - m ≡ n))
+  pub yes_of : (ok : Bool) (a : Answer ℕ) (n : ℕ) → cond ok (excess_over a plan.cost) No ≡ Yes n → (ok ≡ true) × ((m : ℕ) × (a ≡ figures m) × (plan.cost - m ≡ n))
   yes_of true (figures m) n e = (refl, (m, refl, cc))
   yes_of true (refused k) n e = absurd (no-yes e)
   yes_of false a n e = absurd (no-yes e)

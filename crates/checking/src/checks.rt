@@ -1,6 +1,7 @@
 // A plan file checked against an order file.
 ghost use Rattle.std.specs.Prelude.{◌≡◌};
-ghost use Rattle.checking.specs.Check.{check_of, check_says};
+ghost use Rattle.terms.specs.Refusals.{says};
+ghost use Rattle.checking.specs.Check.{check_of};
 
 use crate::verdicts::{Verdict, judge};
 use order_file::ordered::Ordered;
@@ -11,7 +12,7 @@ use terms::limits::TRACE_LIMIT;
 // Yes with the excess, or no; or a refusal: 1 to 5 as reading the order gives it, 1 to 5 as reading the
 // plan gives it, or 10 where they have different numbers of periods.
 pub fn check(order: &[u8], plan: &[u8]) -> Result<Verdict, Refusal>
-    ensures { check_says result ≡ check_of order.now plan.now }
+    ensures { says result ≡ check_of order.now plan.now }
 {
     let order = Ordered::read(order)?;
     let stated = read_records(plan, TRACE_LIMIT)?;

@@ -1,7 +1,7 @@
 // What is said of a plan that was read for an order. Public only for this crate's calls, which show
 // what is required.
 ghost use Rattle.std.specs.Prelude.{◌≡◌};
-ghost use Rattle.checking.specs.Check.{verdict_of, verdict_says};
+ghost use Rattle.checking.specs.Check.{verdict_of};
 ghost use Rattle.checking.specs.WeighLaws.{Weighable};
 
 use crate::runs::plan_holds;
@@ -21,7 +21,7 @@ pub enum Verdict {
 // The verdict on a plan.
 pub fn judge(trace: &[u16], tariff: Tariff, stated: &Recorded) -> Verdict
     requires { Weighable tariff trace.now stated.now }
-    ensures { verdict_says result ≡ verdict_of tariff trace.now stated.now }
+    ensures { result ≡ verdict_of tariff trace.now stated.now }
 {
     if !plan_holds(trace, tariff, stated) {
         return Verdict::No;

@@ -16,7 +16,8 @@ use Rattle.plan_file.specs.Plan.{plan_file, read_plan}
 use Rattle.planning.specs.Planning.{planned}
 use Rattle.booking.specs.Booking.{plan_figures}
 use Rattle.causes.specs.Cause.{SetBy, nothing, opening, stretch}
-use Rattle.checking.specs.Check.{Verdict, yes, no}
+use Rattle.checking.specs.declared.verdicts.Verdict.{Verdict}
+use Rattle.checking.specs.declared.verdicts.Verdict.TheVariants.{Yes, No}
 use Rattle.typed_figures.specs.Figures.{tariff_figures, tariff_of}
 use Rattle.exports.specs.declared.explaining.CauseNumbers.{CauseNumbers}
 use Rattle.exports.specs.Lists.{RecordLists, room_of}
@@ -70,13 +71,13 @@ cause_numbers (stretch u v) = record { cause = 2; first = u; last = v }
 
 -- A verdict as a number: 1 for yes, 0 for no (02, job 1).
 abbrev pub verdict_code : Verdict → ℕ
-verdict_code (yes excess) = 1
-verdict_code no = 0
+verdict_code (Yes excess) = 1
+verdict_code No = 0
 
 -- What a lent number holds after a check: with a yes the excess, else what it held.
 abbrev pub excess_or : Answer Verdict → ℕ → ℕ
-excess_or (figures (yes excess)) old = excess
-excess_or (figures no) old = old
+excess_or (figures (Yes excess)) old = excess
+excess_or (figures No) old = old
 excess_or (refused n) old = old
 
 -- ---- Meters

@@ -17,7 +17,8 @@ use Rattle.booking.specs.Booking.{Lent, Steps, booked, plan_figures}
 use Rattle.booking.specs.CallLaws.{Sizes, sizes, sizes_of, booked_in, file_in, recording_in, written_in}
 use Rattle.booking.specs.ClaimLaws.{booked-sizes}
 use Rattle.booking.specs.StepLaws.{planned-short, steps-figures, written_is}
-use Rattle.checking.specs.Check.{yes, check_of}
+use Rattle.checking.specs.declared.verdicts.Verdict.TheVariants.{Yes}
+use Rattle.checking.specs.Check.{check_of}
 use Rattle.checking.specs.OwnLaws.{planned-yes}
 use Rattle.exports.specs.Answers.{plan_file_in}
 
@@ -69,7 +70,7 @@ booked-file bs h lent s =
     ap file_answered (booked-sizes lent bs ∙ ap (λ (x : Sizes). booked_in x bs) e) ∙ booked_in_lem bs h (length lent.bytes)
 
 -- So a check gives it a yes and an excess of 0.
-pub file-yes : (room : ℕ) (bs file : List ℕ) → plan_file_in room bs ≡ figures file → check_of bs file ≡ figures (yes 0)
+pub file-yes : (room : ℕ) (bs file : List ℕ) → plan_file_in room bs ≡ figures file → check_of bs file ≡ figures (Yes 0)
 file-yes room bs file e =
     let a = then_found (planned trace_limit trace_limit bs) (λ x. plan_file trace_limit room (plan_figures x) x.cutting) e in
     let x = a.0 in

@@ -43,7 +43,9 @@ use Rattle.sheets.specs.SheetLaws.{sheet_short}
 use Rattle.text.specs.Fitted.{fitted}
 use Rattle.text.specs.Lines.{single_line, trial_line}
 use Rattle.text.specs.LineLaws.{longest_single, longest_trial, trial_short}
-use Rattle.checking.specs.Check.{Verdict, yes, no, check_of}
+use Rattle.checking.specs.declared.verdicts.Verdict.{Verdict}
+use Rattle.checking.specs.declared.verdicts.Verdict.TheVariants.{Yes, No}
+use Rattle.checking.specs.Check.{check_of}
 use Rattle.typed_figures.specs.Figures.{tariff_figures, tariff_of}
 use Rattle.exports.specs.Answers.{refused_from, coded, order_from, planned_cost, plan_file_in, verdict_code, meter_in}
 
@@ -198,8 +200,8 @@ plan-below room bs n e =
 -- ---- Checks
 
 verdict-small : (v : Verdict) → verdict_code v ≤ 1
-verdict-small (yes excess) = omega arith
-verdict-small no = omega arith
+verdict-small (Yes excess) = omega arith
+verdict-small No = omega arith
 
 pub check_below : (order plan : List ℕ) → Below (on_figures verdict_code (check_of order plan))
 check_below order plan n e = let g = on_figures_lem verdict_code (check_of order plan) e in omega (arith, g.2, verdict-small g.0)

@@ -3,7 +3,7 @@
 use Rattle.std.specs.Prelude.{ℕ, ◌≡◌}
 use Rattle.std.proofs.Common.{sym, ap, ◌∙◌}
 use Rattle.terms.specs.Answer.{Answer, figures, refused, on_figures, figure_or}
-use Rattle.checking.specs.Check.{Verdict}
+use Rattle.checking.specs.declared.verdicts.Verdict.{Verdict}
 use Rattle.exports.specs.Answers.{coded, excess_or}
 
 module _ {A : Type 0} (a : Answer A) where

@@ -18,7 +18,9 @@ use Rattle.single.specs.Single.{bucket_of, at_rate, single_of}
 use Rattle.series.specs.Series.{true_cost_of, series_of}
 use Rattle.text.specs.Megabits.{megabits}
 use Rattle.sheets.specs.Sheet.{sheet_text}
-use Rattle.checking.specs.Check.{Verdict, yes, no, verdict_of}
+use Rattle.checking.specs.declared.verdicts.Verdict.{Verdict}
+use Rattle.checking.specs.declared.verdicts.Verdict.TheVariants.{Yes, No}
+use Rattle.checking.specs.Check.{verdict_of}
 use Rattle.figure_table.specs.Rows.{Row}
 
 -- the factor of the printed case
@@ -111,8 +113,8 @@ printed_sheet xs = map pos (sheet_text (record { order = record { periods = 3; t
 
 -- the verdict on a plan of these records for a trace, at the cost that it states: 1 and the excess, or 0
 verdict_row : Verdict → List ℤ
-verdict_row (yes excess) = pos 1 ∷ pos excess ∷ []
-verdict_row no = pos 0 ∷ []
+verdict_row (Yes excess) = pos 1 ∷ pos excess ∷ []
+verdict_row No = pos 0 ∷ []
 
 verdict_at : Tariff → List ℕ → ℕ → Cutting → Answer (List ℤ)
 verdict_at t ds cost xs = figures (verdict_row (verdict_of t ds (record { periods = length ds; cost = cost; buckets = xs })))

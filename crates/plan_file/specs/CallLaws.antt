@@ -1,4 +1,4 @@
--- What a plan that is read leaves room for, and that a plan is written alike from any list that has its records in front.
+-- That a plan that is read fits its list, and that a plan is written alike from any list with its records in front.
 -- Assumes nothing.
 use Rattle.std.specs.Prelude.{ℕ, ◌≤◌, ◌≡◌, refl, List, leb, length}
 use Rattle.std.proofs.Common.{sym, ap, subst, leb-true, le-leb}

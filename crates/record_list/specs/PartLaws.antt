@@ -1,5 +1,5 @@
--- Records gone through in order, beside a trace that their runs make up: which are left, where a run's part of the trace
--- begins, and that it is inside the trace.
+-- Records gone through in order, beside a trace that their runs make up: which are left, where a run's part of the
+-- trace begins, and that it is inside the trace.
 -- Assumes nothing.
 use Rattle.std.specs.Prelude.{ℕ, ◌+◌, ◌-◌, ◌≤◌, ◌<◌, ◌≡◌, List, [], ◌∷◌, length, take, drop, get_or}
 use Rattle.std.proofs.Common.{arith, zero-add, add-one, sym, ◌∙◌, drop-cons, drop_of_length-le}

@@ -54,5 +54,5 @@ booking_of x =
     }
 
 -- That booking, with the records read back.
-abbrev pub booked : Recording → BookingRecords
-booked x = record { booking = booking_of x; records = x.plan.buckets }
+abbrev pub booking_records : Recording → BookingRecords
+booking_records x = record { booking = booking_of x; records = x.plan.buckets }

@@ -24,12 +24,12 @@ use Rattle.plan_file.specs.PlanLaws.{file-read}
 use Rattle.plan_file.specs.PlanRules.{CountsRange, WriteRules, write_rules}
 use Rattle.record_list.specs.Held.{no_record}
 use Rattle.recording.specs.declared.recorded.BookingRecords.{BookingRecords}
-use Rattle.recording.specs.Recording.{meters_of, totals_of, recording, booked}
+use Rattle.recording.specs.Recording.{meters_of, totals_of, recording, booking_records}
 
 -- What recording a plan answers that is read back into a list of `space` records: the booking and the records read
 -- back; and what the bytes then hold, after a refusal what they held. `file` is what writing it gives.
 pub record RecordsPlan (x : PlanFigures) (file : Answer (List ℕ)) (f : Factor) (ds : List ℕ) (bytes : List ℕ) (space : ℕ) (bytes' : List ℕ) (answer : Answer BookingRecords) : Type 0 where
-  pub answers : answer ≡ on_figures booked (recording space x file f ds)
+  pub answers : answer ≡ on_figures booking_records (recording space x file f ds)
   pub writes : bytes' ≡ filled (on_figures (λ y. y.file) (recording space x file f ds)) bytes
 
 -- The meters of records in their ranges, opened with a factor in its own, refuse nothing.

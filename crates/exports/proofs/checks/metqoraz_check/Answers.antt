@@ -1,6 +1,5 @@
 -- A verdict's number, and with a yes the excess in the lent one; else that is as it was.
 use mathlib.Core.Path.{sym, ap, ◌∙◌}
-use Rattle.checking.specs.Check.{check_says}
 use Rattle.exports.specs.Answers.{verdict_code}
 use Rattle.exports.specs.LentNumberLaws.{code_refused, code_found, excess_is}
 use borrow.Author.Rules.{rules}
