@@ -75,8 +75,8 @@ module _ (bs : List ℕ) (h : Bytes bs) (old : Lent) (bytes : List ℕ) where
         claim-holds bs h old (lent demands plan bytes back) (figures r.booking)
         (ap (λ (y : BookedRecords). figures y.booking) (sym made.2) ∙ ap (on_figures answer_of) (sym same))
         (lent_by
-            (d ∙ ap (λ (y : BookedRecords). filled (figures y.order.demands) old.demands) (sym made.2))
-            (p ∙ ap (λ (y : BookedRecords). filled (figures y.plan) old.plan) (sym made.2))
-            written
-            (q ∙ ap (λ (y : BookedRecords). filled (figures y.back) old.back) (sym made.2))
+        (d ∙ ap (λ (y : BookedRecords). filled (figures y.order.demands) old.demands) (sym made.2))
+        (p ∙ ap (λ (y : BookedRecords). filled (figures y.plan) old.plan) (sym made.2))
+        written
+        (q ∙ ap (λ (y : BookedRecords). filled (figures y.back) old.back) (sym made.2))
         ∙ ap (λ (a : Answer Steps). lent_after a old) (sym same))

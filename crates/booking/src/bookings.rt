@@ -4,10 +4,10 @@ ghost use Rattle.terms.specs.Refusals.{says};
 ghost use Rattle.booking.specs.Booking.{lent};
 ghost use Rattle.booking.specs.Claim.{Claim};
 
-use recording::Booking;
 use crate::calls::make_calls;
 use order_file::spreads::store_demands;
 use record_list::copies::store_records;
+use recording::Booking;
 use terms::{BucketRecord, Refusal};
 
 // Books an order: reads it, spreads its trace into the demands, plans the series into the first list of

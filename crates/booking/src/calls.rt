@@ -40,7 +40,14 @@ pub fn make_calls(
         cost: planned.plan.cost,
     };
     let factor = order.order().tariff.factor;
-    let recorded = record_plan(figures, plan.as_slice(), factor, order.trace(), bytes, space)?;
+    let recorded = record_plan(
+        figures,
+        plan.as_slice(),
+        factor,
+        order.trace(),
+        bytes,
+        space,
+    )?;
     Ok(BookedRecords {
         booking: recorded.booking,
         order,

@@ -1,5 +1,4 @@
 // One booking: its order, what it is lent, and the answer.
-use terms::Refusal;
 use crate::recorded::{print_runs, read_again};
 use crate::rooms::{Rooms, print_rooms, rooms_of};
 use booking::{Booking, MeterTotals};
@@ -10,6 +9,7 @@ use plan_file::PlanFigures;
 use samples::demands::{LENT_DEMAND, are_lent, lent_demands};
 use samples::file_bytes::{LENT, LENT_BYTES, front, is_lent, lent_front};
 use samples::lent_records::{ENTRIES, are_kept, filled};
+use terms::Refusal;
 
 // A case: an order of some tariff and trace, booked in some rooms.
 pub fn order_case(rt: &impl Print, line: &[u8]) {

@@ -83,8 +83,10 @@ fn cost(trace: &[u16], small: Small, c: Cutting) -> Option<u32> {
     let second = c.first as usize;
     let third = second + c.second as usize;
     let fourth = third + c.third as usize;
-    let front = price(trace, small, 0, c.first)? as u32 + price(trace, small, second, c.second)? as u32;
-    let back = price(trace, small, third, c.third)? as u32 + price(trace, small, fourth, c.fourth)? as u32;
+    let front = price(trace, small, 0, c.first)? as u32
+        + price(trace, small, second, c.second)? as u32;
+    let back = price(trace, small, third, c.third)? as u32
+        + price(trace, small, fourth, c.fourth)? as u32;
     Some(front + back)
 }
 

@@ -1,12 +1,12 @@
 // The series call against trials of every bucket in every cutting: a small case, its trace and tariff, and
 // whether the call answers and records as the plain search does.
-use terms::Refusal;
-use series::Plan;
 use crate::cutting_records::recorded;
 use crate::cuttings::{Choice, buckets_of, preferred};
 use list_calls::series_on;
 use samples::lent_records::{are_same, filled};
 use samples::small::{Small, demand, small_tariff, tariff_of};
+use series::Plan;
+use terms::Refusal;
 
 // One to four periods with demands 0 to 4, five factors, rate caps 0, 2 and 4, depth caps 0, 3 and
 // 9, four price lists, fees 0, 1 and 3.

@@ -1,9 +1,9 @@
 // The depth calls and the single call against trials of every bucket: a small case, its trace and tariff,
 // and whether the calls answer as the trials do.
-use single::Priced;
 use depth::{depth_at, depth_from_end};
 use samples::plain::{Best, cheapest, smallest};
 use samples::small::{Small, demand, small_tariff, tariff_of};
+use single::Priced;
 use terms::{Depth, Rate, Refusal};
 
 // One to four periods with demands 0 to 4, five factors, rate caps 0, 2 and 4, depth caps 0, 3 and

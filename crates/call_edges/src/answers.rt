@@ -1,10 +1,10 @@
 // One case in a line: its name and the answer.
-use series::Plan;
 use crate::meters::print_meter;
 use cases::{DEMANDS, bucket_of, demands, factor_of, field, figure, first, tariff_of, trace};
 use list_calls::series_on;
 use meter::{meter_run, open_meter};
 use samples::lent_records::filled;
+use series::Plan;
 use terms::{Rate, Refusal, Tariff, tariff_in_range};
 
 pub fn named(rt: &impl Print, line: &[u8]) {

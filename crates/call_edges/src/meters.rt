@@ -1,7 +1,7 @@
 // A meter's record: from figures, printed, and offered the least and the greatest demand.
-use terms::Refusal;
 use cases::{bucket_of, factor_of, figure, large};
 use meter::Meter;
+use terms::Refusal;
 
 // The bucket, its factor, the tokens held, the periods, and what was sent, over and lost.
 pub fn meter(field: &[u8]) -> Meter {

@@ -1,14 +1,14 @@
 // One check: an order and a plan, what is said of them, and the line of it in a text with so much room.
-use terms::Refusal;
-use recording::Booking;
 use crate::joined::{JOINED_BYTES, joined, put_files};
 use cases::{DEMANDS, demands, field, figure, file_of, tariff_of, trace};
 use checking::{Verdict, check, check_files, check_line};
 use list_calls::book_on;
 use order_file::write_order;
+use recording::Booking;
 use samples::demands::LENT_DEMAND;
 use samples::file_bytes::{LENT, LENT_BYTES, front, is_lent, lent_front};
 use samples::lent_records::{ENTRIES, filled};
+use terms::Refusal;
 
 // A case: the first bytes of an order of some words, and of a plan.
 pub fn check_case(rt: &impl Print, line: &[u8]) {

@@ -2,7 +2,7 @@
 -- cost is that of some carried cutting and no more than that of any.
 -- Assumes nothing.
 use Rattle.std.specs.Prelude.{ℕ, suc, ◌-◌, ◌≤◌, ◌≡◌, Bool, true, false, cond, leb, eqb, length, take, drop}
-use Rattle.std.proofs.Common.{arith, sym, ap, ap₂, subst, ◌∙◌, leb-true, le-leb, eqb-true, eq-eqb}
+use Rattle.std.proofs.Common.{arith, sym, ap, subst, ◌∙◌, leb-true, le-leb, eqb-true, eq-eqb}
 use Rattle.std.proofs.Math.Path.{refl}
 use mathlib.Core.List.{List, [], ◌∷◌}
 use Rattle.std.proofs.Math.ListN.{length-drop}
@@ -23,7 +23,7 @@ use Rattle.series.specs.Series.{Carried, found_of, true_cost_of, series_of}
 use Rattle.series.specs.SeriesLaws.{series-cheapest, series_none, series_refuses}
 use Rattle.plan_file.specs.declared.answers.Recorded.{Recorded}
 use Rattle.plan_file.specs.RecordLaws.{RecordsRange}
-use Rattle.checking.specs.Check.{yes, no, run_ok, runs_ok, plan_ok, least_cost, excess_over, verdict_of}
+use Rattle.checking.specs.Check.{yes, no, run_ok, runs_ok, plan_ok, least_cost, excess_over}
 
 -- ---- The runs
 
@@ -106,7 +106,7 @@ module _ (t : Tariff) (ds : List ℕ) (plan : Recorded) where
   yes_of true (refused k) n e = absurd (no-yes e)
   yes_of false a n e = absurd (no-yes e)
 
--- What is answered of a plan, once it is weighed and the least cost is found.
+-- The series call gives the least cost.
 module _ (t : Tariff) (ds : List ℕ) where
   pub least-planned : (a : Answer SeriesRecords) → a ≡ on_figures (found_of t) (series_of t trace_limit ds) → least_cost t ds ≡ on_figures (λ x. x.plan.cost) a
   least-planned a e = go (series_of t trace_limit ds) ∙ ap (on_figures (λ x. x.plan.cost)) (sym e)
@@ -114,7 +114,3 @@ module _ (t : Tariff) (ds : List ℕ) where
       go : (b : Answer Cutting) → on_figures (true_cost_of t) b ≡ on_figures (λ x. x.plan.cost) (on_figures (found_of t) b)
       go (figures xs) = refl
       go (refused n) = refl
-
-  module _ (plan : Recorded) where
-    pub verdict-is : (ok : Bool) → plan_ok t ds plan ≡ ok → (a : Answer ℕ) → least_cost t ds ≡ a → cond ok (excess_over a plan.cost) no ≡ verdict_of t ds plan
-    verdict-is ok e a f = sym (ap₂ (λ (b : Bool) (c : Answer ℕ). cond b (excess_over c plan.cost) no) e f)

@@ -8,10 +8,10 @@ ghost use Rattle.text.specs.Fitted.{fitted};
 ghost use Rattle.text.specs.Lines.{yes_line};
 ghost use Rattle.checking.specs.Check.{check_files, check_in};
 
-use terms::Refusal;
 use crate::checks::check;
 use crate::verdicts::Verdict;
 use order_file::order_end;
+use terms::Refusal;
 use text::fills::fill;
 use text::lines::put_yes_line;
 

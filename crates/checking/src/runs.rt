@@ -16,12 +16,8 @@ fn run_holds(tariff: Tariff, bucket: Bucket, run: &[u16]) -> bool
     requires periods_range { PeriodsRange (length run.now) }
     ensures { result ≡ run_ok tariff run.now bucket }
 {
-    let Ok(figures) = trial(bucket, tariff.factor, run) else {
-        return false;
-    };
-    (bucket.rate.0 <= tariff.rate_cap.0)
-        & (bucket.depth.0 <= tariff.depth_cap.0)
-        & (figures.over == 0)
+    let carried = trial(bucket, tariff.factor, run).is_ok_and(|figures| figures.over == 0);
+    (bucket.rate.0 <= tariff.rate_cap.0) & (bucket.depth.0 <= tariff.depth_cap.0) & carried
 }
 
 // Whether each bucket of a plan holds on its run, the runs one after the other, and the stated cost is

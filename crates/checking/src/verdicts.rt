@@ -7,8 +7,8 @@ ghost use Rattle.checking.specs.WeighLaws.{Weighable};
 use crate::runs::plan_holds;
 use plan_file::Recorded;
 use series::planner::plan_series;
-use terms::limits::TRACE_LIMIT;
 use terms::Tariff;
+use terms::limits::TRACE_LIMIT;
 
 // What is said of a plan: yes, with its excess, by how much it costs more than the cheapest for the order;
 // or no.

@@ -1,13 +1,13 @@
 -- Storing a list entry by entry: what is left to be stored, stored from the place reached on, gives the whole.
 -- Assumes nothing.
-use Prim.Native.Nat.{ℕ, suc, ◌+◌, ◌-◌, ◌*◌, ◌≤◌, ◌<◌}
+use Prim.Native.Nat.{ℕ, suc, ◌+◌, ◌*◌, ◌≤◌, ◌<◌}
 use native.Mathlib.Omega.{arith}
-use Rattle.std.proofs.Common.{mul-zero, mul-suc, mul-le-mul, le_refl, add-one, sym, ◌∙◌, length-set, drop_of_length-le, drop-cons}
+use Rattle.std.proofs.Common.{mul-suc, add-one, sym, ◌∙◌, length-set, drop_of_length-le, drop-cons}
 use Rattle.std.specs.Prelude.{◌≡◌, refl, List, [], ◌∷◌, ◌++◌, length, drop, get_or, set}
 use Rattle.std.proofs.Math.Path.{ap}
 use Rattle.std.proofs.lemmas.List.Edits.{sets, sets-eq}
 use Rattle.std.proofs.Math.Seq.{length-sets}
-use Rattle.encoding.specs.Number.{bytes_of_all, items_at}
+use Rattle.encoding.specs.Number.{bytes_of_all}
 
 -- One list stored after another.
 pub sets_append : {A : Type 0} (old : List A) (at : ℕ) (xs ys : List A) → sets old at (xs ++ ys) ≡ sets (sets old at xs) (at + length xs) ys
@@ -57,18 +57,9 @@ module _ {A : Type 0} {old : List A} {at : ℕ} {all new : List A} {next : ℕ} 
   pub all_stored : rest ≡ [] → new ≡ sets old at all
   all_stored e = ap (sets new next) (sym e) ∙ s.is
 
--- ---- What is left after i of n items
+-- ---- What is left after i items of a list
 
-module _ {A : Type 0} (read : ℕ → A) (width n i at : ℕ) where
-  pub items_next : i < n → items_at read width (n - i) at ≡ read at ∷ items_at read width (n - (i + 1)) (at + width)
-  unfolding items_at
-  items_next l = let e : n - i ≡ suc (n - (i + 1)) = omega arith in ap (λ (m : ℕ). items_at read width m at) e
-
-  pub items_none : n ≤ i → items_at read width (n - i) at ≡ []
-  unfolding items_at
-  items_none l = let e : n - i ≡ 0 = omega arith in ap (λ (m : ℕ). items_at read width m at) e
-
--- … and of a list; d stands past its end.
+-- The next item and those after it; d stands past the end.
 pub drop_next : {A : Type 0} (xs : List A) (i : ℕ) (d : A) → i < length xs → drop i xs ≡ get_or xs i d ∷ drop (i + 1) xs
 drop_next xs i d l = drop-cons xs i d l ∙ ap (λ (n : ℕ). get_or xs i d ∷ drop n xs) (sym (add-one i))
 
@@ -81,25 +72,6 @@ module _ {A : Type 0} (bytes : A → List ℕ) (xs : List A) (i : ℕ) where
   unfolding bytes_of_all
   bytes_none l = ap (bytes_of_all bytes) (drop_of_length-le xs l)
 
--- ---- A list copied entry by entry
-
--- `xs` is being copied to the front of `old`: the entries from the i-th on are left.
-abbrev pub Copying : List ℕ → List ℕ → List ℕ → ℕ → Type 0
-Copying xs old new i = Storing old 0 xs new i (drop i xs)
-
-module _ {xs old new : List ℕ} {i : ℕ} (s : Storing old 0 xs new i (drop i xs)) where
-  pub copied_next : i < length xs → Copying xs old (set new i (get_or xs i 0)) (i + 1)
-  copied_next l = one_stored s (get_or xs i 0) (drop (i + 1) xs) (drop_next xs i 0 l)
-
-  pub copied_inside : length xs ≤ length old → i < length xs → i < length new
-  copied_inside h l = omega (arith, s.same)
-
-  pub copied_all : length xs ≤ i → new ≡ sets old 0 xs
-  copied_all l = all_stored s (drop_of_length-le xs l)
-
-  pub copied_front : length xs ≤ length old → length xs ≤ i → new ≡ xs ++ drop (length xs) old
-  copied_front h l = copied_all l ∙ sets_front xs old h
-
 -- ---- Items of w bytes stored one by one
 
 -- The items xs are being stored in `old`, which has room for them, from `at` on: those from the i-th on are left.
@@ -108,27 +80,17 @@ pub record Putting {A : Type 0} (bytes : A → List ℕ) (w : ℕ) (old : List �
   pub place : next ≡ at + w * i
   pub stored : Storing old at (bytes_of_all bytes xs) new next (bytes_of_all bytes (drop i xs))
 
-module _ {A : Type 0} (bytes : A → List ℕ) (w : ℕ) (old : List ℕ) (at : ℕ) (xs : List A) where
-  pub put_begin : at + w * length xs ≤ length old → Putting bytes w old at xs old at 0
-  put_begin h = record { room = h; place = omega (arith, mul-zero w); stored = none_stored old at (bytes_of_all bytes xs) }
+module _ {A : Type 0} (bytes : A → List ℕ) (w : ℕ) (old : List ℕ) (at : ℕ) (xs : List A) {new : List ℕ} {next i : ℕ} (p : Putting bytes w old at xs new next i) where
+  -- the next item, x; d stands past the end
+  pub put_next : (d x : A) → i < length xs → x ≡ get_or xs i d → length (bytes x) ≡ w
+      → (new' : List ℕ) → new' ≡ sets new next (bytes x) → Putting bytes w old at xs new' (next + w) (i + 1)
+  put_next d x h is each new' e =
+      let left = bytes_next bytes xs i d h ∙ ap (λ (y : A). bytes y ++ bytes_of_all bytes (drop (i + 1) xs)) (sym is) in
+      record {
+        room = p.room;
+        place = omega (arith, p.place, mul-suc w i, ap (λ (n : ℕ). w * n) (add-one i));
+        stored = some_stored p.stored (bytes x) _ new' w each left e;
+      }
 
-  module _ {new : List ℕ} {next i : ℕ} (p : Putting bytes w old at xs new next i) where
-    pub put_inside : i < length xs → next + w ≤ length new
-    put_inside h =
-        let e = mul-suc w i in
-        let l : w * suc i ≤ w * length xs = mul-le-mul (le_refl w) h in
-        omega (arith, p.room, p.place, p.stored.same)
-
-    -- the next item, x; d stands past the end
-    pub put_next : (d x : A) → i < length xs → x ≡ get_or xs i d → length (bytes x) ≡ w
-        → (new' : List ℕ) → new' ≡ sets new next (bytes x) → Putting bytes w old at xs new' (next + w) (i + 1)
-    put_next d x h is each new' e =
-        let left = bytes_next bytes xs i d h ∙ ap (λ (y : A). bytes y ++ bytes_of_all bytes (drop (i + 1) xs)) (sym is) in
-        record {
-          room = p.room;
-          place = omega (arith, p.place, mul-suc w i, ap (λ (n : ℕ). w * n) (add-one i));
-          stored = some_stored p.stored (bytes x) _ new' w each left e;
-        }
-
-    pub put_end : length xs ≤ i → new ≡ sets old at (bytes_of_all bytes xs)
-    put_end h = all_stored p.stored (bytes_none bytes xs i h)
+  pub put_end : length xs ≤ i → new ≡ sets old at (bytes_of_all bytes xs)
+  put_end h = all_stored p.stored (bytes_none bytes xs i h)

@@ -24,13 +24,15 @@ pub struct Choice {
 }
 
 // The old one, or the new one where that is preferred.
+#[tactic(auto, unfolding(crate::specs::Outline::better_choice))]
 pub fn better_of(old: Choice, new: Choice) -> Choice
     ensures { result ≡ better_choice old new }
 {
     if is_ahead(new.outline, old.outline) {
-        return new;
+        new
+    } else {
+        old
     }
-    old
 }
 
 // Whether x is chosen before y: at less cost, or equal cost and fewer buckets, or both equal and a
@@ -38,12 +40,5 @@ pub fn better_of(old: Choice, new: Choice) -> Choice
 fn is_ahead(x: Outline, y: Outline) -> bool
     ensures { result ≡ ahead x y }
 {
-    if y.cost < x.cost {
-        return false;
-    }
-    if x.cost < y.cost {
-        return true;
-    }
-    let longer = (x.buckets == y.buckets) & (y.first < x.first);
-    (x.buckets < y.buckets) | longer
+    (x.cost, x.buckets, y.first) < (y.cost, y.buckets, x.first)
 }

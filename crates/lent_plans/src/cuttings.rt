@@ -13,11 +13,7 @@ use terms::{BucketRecord, Refusal, Tariff};
 // and then to the longer first run, the longer second and so on. The buckets' records fill the
 // front of the lent list in order. Or refusal 3, 5, 6 (a list with fewer entries than the trace) or
 // 7 (no cutting), and the list is as it was.
-pub fn series(
-    trace: &[u16],
-    tariff: Tariff,
-    list: &mut [BucketRecord],
-) -> Result<Plan, Refusal>
+pub fn series(trace: &[u16], tariff: Tariff, list: &mut [BucketRecord]) -> Result<Plan, Refusal>
     ensures { (says result ≡ plan_of tariff (series_of tariff (length list.old) trace.now))
         × (list.new ≡ filled (series_of tariff (length list.old) trace.now) list.old) }
 {

@@ -2,11 +2,11 @@
 // has as many.
 ghost use Rattle.std.specs.Prelude.{◌≤◌};
 
-use series::Plan;
-use recording::Booking;
 use booking::book;
 use lent_plans::{PlanFigures, read_plan, series, write_plan};
+use recording::Booking;
 use samples::lent_records::ENTRIES;
+use series::Plan;
 use terms::{BucketRecord, Refusal, Tariff};
 
 // What the series call answers, and the list afterwards.

@@ -22,7 +22,9 @@ pub use single::{Priced, single};
 
 // The two files, and room for the longest.
 pub use lent_plans::{PlanFigures, read_plan, write_plan};
-pub use order_file::{LONGEST_ORDER, Order, order_end, read_order, spread, trace_part, write_order};
+pub use order_file::{
+    LONGEST_ORDER, Order, order_end, read_order, spread, trace_part, write_order,
+};
 pub use plan_file::LONGEST_PLAN;
 
 // From an order file to a plan that is recorded and metered.

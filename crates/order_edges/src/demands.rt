@@ -1,8 +1,8 @@
 // Demands printed: of a trace, and of the list that spreading has filled.
-use terms::Refusal;
 use samples::demands::are_lent;
 use samples::file_bytes::summed;
 use samples::lent_records::ENTRIES;
+use terms::Refusal;
 
 // How many demands there are, and the first.
 pub fn print_length(rt: &impl Print, trace: &[u16]) {
@@ -32,7 +32,9 @@ pub fn print_list(rt: &impl Print, answer: Result<usize, Refusal>, list: &[u16; 
 
 // A number that each of the first demands and its place enter.
 fn checksum(list: &[u16; ENTRIES], count: usize) -> u32 {
-    list.iter().take(count).fold(0, |sum, &demand| summed(sum, demand))
+    list.iter()
+        .take(count)
+        .fold(0, |sum, &demand| summed(sum, demand))
 }
 
 // Whether the trace stands at the front of the list.

@@ -92,40 +92,7 @@ ordered_any {space} {bs} {x} p =
     let few : x.order.periods ≤ trace_limit = omega (arith, ordered-count p, (ordered_range p).0.few) in
     found-ordered trace_limit bs x (record { read = p.read; spread = orders.read-spread bs x.order p.read trace_limit few ∙ ap figures (spread-demands p) })
 
--- ---- Call by call
-
-module _ (bs demands : List ℕ) where
-  abbrev reading : Answer Ordered
-  reading = ordered (length demands) bs
-
-  spread_as : (a : Answer Ordered) → reading ≡ a → (demands' : List ℕ) → demands' ≡ filled (on_figures (λ x. x.demands) a) demands
-      → SpreadsOrder bs demands demands' (on_figures (λ x. x.order) a)
-  spread_as a e demands' d =
-      record { answers = ap (on_figures (λ x. x.order)) (sym e); spreads = d ∙ ap (λ (b : Answer Ordered). filled (on_figures (λ x. x.demands) b) demands) (sym e) }
-
-  pub order-refused : (n : ℕ) → read_order bs ≡ refused n → SpreadsOrder bs demands demands (refused n)
-  order-refused n e = spread_as (refused n) (sym (then_refused (read_order bs) _ e)) demands refl
-
-  module _ (o : Order) (e : read_order bs ≡ figures o) (part : List ℕ) (p : part ≡ trace_part bs) where
-    abbrev spreading : Answer (List ℕ)
-    spreading = spread_of (length demands) part
-
-    abbrev ordered_with : List ℕ → Ordered
-    ordered_with ds = record { order = o; demands = ds }
-
-    reading-is : reading ≡ on_figures ordered_with spreading
-    reading-is = sym (then_figures (read_order bs) _ e) ∙ ap (λ (ys : List ℕ). on_figures ordered_with (spread_of (length demands) ys)) (sym p)
-
-    module _ (demands' : List ℕ) (d : demands' ≡ filled spreading demands) where
-      pub spread-refused : (n : ℕ) → refused n ≡ on_figures length spreading → SpreadsOrder bs demands demands' (refused n)
-      spread-refused n f =
-          let g : spreading ≡ refused n = on_refused length spreading (sym f) in
-          spread_as (refused n) (reading-is ∙ ap (on_figures ordered_with) g) demands' (d ∙ ap (λ (a : Answer (List ℕ)). filled a demands) g)
-
-      pub spread-found : (n : ℕ) → figures n ≡ on_figures length spreading → SpreadsOrder bs demands demands' (figures o)
-      spread-found n f =
-          let g = on_figures_lem length spreading (sym f) in
-          spread_as (figures (ordered_with g.0)) (reading-is ∙ ap (on_figures ordered_with) g.1) demands' (d ∙ ap (λ (a : Answer (List ℕ)). filled a demands) g.1)
+-- ---- What a call leaves
 
 -- An order that was found.
 module _ (bs demands demands' : List ℕ) (found : Answer Order) (p : SpreadsOrder bs demands demands' found) (o : Order) (f : found ≡ figures o) where

@@ -1,11 +1,11 @@
 // A plan read, in a line.
-use terms::Refusal;
-use plan_file::PlanFigures;
 use crate::entries;
 use cases::{field, file_of};
 use list_calls::read_on;
+use plan_file::PlanFigures;
 use samples::file_bytes::front;
 use samples::lent_records::filled;
+use terms::Refusal;
 
 // A case: its name, and the first bytes of the file read.
 pub fn read_case(rt: &impl Print, line: &[u8]) {

@@ -127,11 +127,6 @@ read_range bs x e =
     let r = read_rules bs x e in
     subst (λ (y : Recorded). RecordsRange y.periods y.buckets) (sym r.1) r.0.records
 
--- What is answered, from the numbers and the records that are read.
-pub read_from : (bs : List ℕ) (T k cost : ℕ) (xs : Cutting) → T ≡ number_at 4 bs 4 → k ≡ number_at 4 bs 8 → cost ≡ number_at 8 bs cost_offset → xs ≡ records_in k bs
-    → record { periods = T; cost = cost; buckets = xs } ≡ recorded_in bs
-read_from bs T k cost xs e f g h = rw (h, e, f, g) refl
-
 -- ---- The figures of a plan that is read
 
 -- A plan with the figures y is read.

@@ -6,6 +6,7 @@ use terms::limits::TRACE_LIMIT;
 use terms::{Bucket, BucketRecord, Depth, Rate};
 
 // Records of zeros.
+#[tactic(auto, unfolding(crate::specs::Held::blank))]
 pub fn blank_records() -> [BucketRecord; TRACE_LIMIT]
     ensures { result ≡ blank }
 {

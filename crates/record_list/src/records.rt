@@ -4,8 +4,8 @@ ghost use Rattle.terms.specs.Limits.{trace_limit};
 
 use crate::arrays::blank_records;
 use std::marker::Model;
-use terms::limits::TRACE_LIMIT;
 use terms::BucketRecord;
+use terms::limits::TRACE_LIMIT;
 
 #[derive(Drop)]
 pub struct Records {

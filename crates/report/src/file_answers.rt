@@ -1,7 +1,7 @@
 // The answers of the calls on files; each leaves its line open.
-use plan_file::PlanFigures;
-use order_file::Order;
 use crate::{figure, refusal};
+use order_file::Order;
+use plan_file::PlanFigures;
 use terms::{Refusal, Tariff};
 
 // How many entries or bytes were filled, or the refusal.

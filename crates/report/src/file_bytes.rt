@@ -1,9 +1,9 @@
 // The bytes of files: in hexadecimal, and as lent bytes that a call has filled.
-use terms::Refusal;
 use crate::file_answers::{fill, filled_of};
 use crate::lent_lists::kept;
 use crate::{end_line, number, words};
 use samples::file_bytes::{LENT_BYTES, checksum, is_lent};
+use terms::Refusal;
 
 // All bytes, 16 to a line.
 pub fn hex_lines(rt: &impl Print, bytes: &[u8]) {

@@ -6,13 +6,13 @@ mod file_answers;
 mod file_bytes;
 mod lent_lists;
 
-use single::Priced;
-use series::Plan;
 use bucket::TrialFigures;
 use causes::{Cause, Explained};
 pub use file_answers::{fill, filled_of, order, plan, tariff};
 pub use file_bytes::{hex_lines, written};
 pub use lent_lists::{kept, list};
+use series::Plan;
+use single::Priced;
 use terms::{BucketRecord, Depth, Refusal};
 
 // Words as they stand.

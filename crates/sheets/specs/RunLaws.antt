@@ -1,16 +1,16 @@
 -- The lines of a plan's runs: stored run by run, and how long they are.
 -- Assumes nothing.
-use Rattle.std.specs.Prelude.{ℕ, ◌+◌, ◌≤◌, ◌<◌, ◌≡◌, refl, length, take, drop, get_or}
+use Rattle.std.specs.Prelude.{ℕ, ◌+◌, ◌≤◌, ◌<◌, ◌≡◌, length, take, drop, get_or}
 use Rattle.std.proofs.Common.{arith, sym, ◌∙◌, drop-drop}
 use Rattle.std.proofs.Math.Path.{ap, subst}
-use mathlib.Core.List.{List, [], ◌∷◌, ◌++◌, append-nil, append_assoc}
+use mathlib.Core.List.{List, ◌∷◌, ◌++◌, append-nil, append_assoc}
 use Rattle.terms.specs.declared.BucketRecord.{BucketRecord}
 use Rattle.terms.specs.declared.Factor.{Factor}
 use Rattle.terms.specs.Limits.{trace_limit}
 use Rattle.terms.specs.RangeRules.{FactorRange, RecordRange}
 use Rattle.terms.specs.Records.{Cutting, Each, run_length, total}
 use Rattle.record_list.specs.Held.{no_record}
-use Rattle.record_list.specs.PartLaws.{Begins, first_begins, next_begins, rest_next, rest_none}
+use Rattle.record_list.specs.PartLaws.{Begins, next_begins, rest_next, rest_none}
 use Rattle.text.specs.PutLaws.{Puts, Room, room-front, room_next, puts_both}
 use Rattle.sheets.specs.Sheet.{run_line, run_lines}
 
@@ -34,16 +34,6 @@ module _ (f : Factor) (ds : List ℕ) (records : Cutting) (old : List ℕ) (at :
     pub is : done ++ run_lines f (start + 1) (drop start ds) (drop i records) ≡ whole
     pub begins : Begins records ds start i
     pub each : Each RecordRange (drop i records)
-
-  pub none_printed : Printable f ds records → Printing old at 0 0
-  none_printed p =
-      record {
-        done = [];
-        put = record { place = omega arith; stored = refl };
-        is = refl;
-        begins = first_begins records ds p.sum;
-        each = p.each;
-      }
 
   module _ {new : List ℕ} {next start i : ℕ} (s : Printing new next start i) where
     module _ (l : i < length records) where

@@ -4,15 +4,15 @@
 use Rattle.std.specs.Prelude.{ℕ, ◌≤◌, ◌≡◌, List, ◌++◌, length}
 use Rattle.std.proofs.Common.{arith, sym, ap, subst, ◌∙◌, length-append}
 use Rattle.terms.specs.declared.Tariff.{Tariff}
-use Rattle.terms.specs.Answer.{Answer, figures, refused, on_figures}
-use Rattle.terms.specs.AnswerLaws.{then_figures, then_refused}
+use Rattle.terms.specs.Answer.{Answer, figures, on_figures}
+use Rattle.terms.specs.AnswerLaws.{then_figures}
 use Rattle.terms.specs.Limits.{trace_limit}
 use Rattle.terms.specs.RangeRules.{RecordRange, TariffRange}
 use Rattle.terms.specs.Records.{Cutting, Each}
 use Rattle.series.specs.Cutting.{none, run}
 use Rattle.series.specs.Series.{Carried, true_cost_of}
 use Rattle.series.specs.OutlineLaws.{carried-count, carried-cost}
-use Rattle.encoding.specs.FillLaws.{Fills, fill_refused}
+use Rattle.encoding.specs.FillLaws.{Fills}
 use Rattle.order_file.specs.OrderedLaws.{ordered-count, ordered_range}
 use Rattle.text.specs.Fitted.{fitted}
 use Rattle.text.specs.FittedLaws.{long, zeros}
@@ -22,7 +22,7 @@ use Rattle.text.specs.ChainLaws.{two}
 use Rattle.planning.specs.declared.planned_orders.PlannedOrder.{PlannedOrder}
 use Rattle.planning.specs.Planning.{Planned, planned, planned_order}
 use Rattle.planning.specs.PlannedLaws.{IsPlanned, planned-cheapest, carried-sum, served_range}
-use Rattle.planning.specs.CallLaws.{plan-refused, the_plan, plan-found, plan_order_lem, plan-is}
+use Rattle.planning.specs.CallLaws.{the_plan, plan-found, plan_order_lem, plan-is}
 use Rattle.sheets.specs.Sheet.{run_lines, sheet_text, sheet_in}
 use Rattle.sheets.specs.RunLaws.{Printable}
 use Rattle.sheets.specs.LengthLaws.{longest_sheet, plan-line-short, runs-short}
@@ -89,10 +89,6 @@ module _ (bs : List ℕ) where
     sheet_filled old new a =
         subst (λ (b : Answer (List ℕ)). Fills b old a new)
         (ap (fitted (length old)) text_is ∙ then_figures _ (λ z. fitted (length old) (sheet_text z)) (plan-found bs trace_limit trace_limit r p))
-
-  pub sheet_refused : (n : ℕ) → refused n ≡ answer → (old : List ℕ) → Fills (sheet_in (length old) bs) old (refused n) old
-  sheet_refused n e old =
-      fill_refused (sheet_in (length old) bs) old n (sym (then_refused _ (λ z. fitted (length old) (sheet_text z)) (plan-refused bs trace_limit trace_limit n e)))
 
 -- ---- The first line, and behind it the runs' lines
 

@@ -36,6 +36,15 @@ tuple-smaller a b c x y z = go (ltb a x) (eqb a x) (ltb b y) (eqb b y) (ltb c z)
     go false true false true false true = refl
     go false true false true false false = refl
 
+pub smaller-last : (c z : ℕ) → smaller c z false ≡ ltb c z
+unfolding smaller
+smaller-last c z = go (ltb c z) (eqb c z)
+  where
+    go : (e f : Bool) → (e || f && false) ≡ e
+    go true f = refl
+    go false true = refl
+    go false false = refl
+
 -- The first number is not the smaller exactly when it is at least the second and, between equal ones, the rest says no.
 pub not_smaller : (a b : ℕ) (rest : Bool) → b ≤ a → (a ≡ b → rest ≡ false) → smaller a b rest ≡ false
 unfolding smaller

@@ -58,10 +58,7 @@ pub fn dear_from(tariff: Tariff, periods: u64, rest: u64, most: u64) -> u64
         return 0;
     }
     let dear = (most - others) / billed_periods(tariff, periods) + 1;
-    if CHARGE_END < dear {
-        return CHARGE_END;
-    }
-    dear
+    dear.min(CHARGE_END)
 }
 
 // The cost of a bucket over a number of periods, its set-up fee included.

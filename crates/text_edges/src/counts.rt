@@ -19,5 +19,9 @@ pub fn first_bytes(rt: &impl Print, name: &[u8], length: usize) {
 fn lines() -> [u8; TEXT_BYTES]
     ensures { 1200 ≡ length result }
 {
-    array::from_fn(|i| if i % 2 == 0 { (48 + i / 2 % 10) as u8 } else { b'\n' })
+    array::from_fn(|i| if i % 2 == 0 {
+        (48 + i / 2 % 10) as u8
+    } else {
+        b'\n'
+    })
 }

@@ -5,27 +5,23 @@ use Rattle.checking.specs.WeighLaws.{all_weighed, cost-small, inside, run_fails,
 use Rattle.checking.proofs.runs.plan_holds.Goals as goal
 
 pub slice_bounds-run_holds-end : goal.slice_bounds-run_holds-end
-slice_bounds-run_holds-end c =
-    let l = rw c.as_slice-records.ensures.items at c.loop-x-test.true in
-    rw c.as_slice-records.ensures.items (inside _ _ _ c.loop-x.invariant c.requires l)
+slice_bounds-run_holds-end c = inside _ _ _ _ c.as_slice-records.ensures.items c.loop-x.invariant c.requires c.loop-x-test.true
 
 pub returns-then-not-run_holds : goal.returns-then-not-run_holds
 returns-then-not-run_holds c =
-    let l = rw c.as_slice-records.ensures.items at c.loop-x-test.true in
-    run_fails _ _ _ c.loop-x.invariant c.requires l _ (rw c.as_slice-records.ensures.items at c.run_holds.ensures) c.if-not-run_holds.true
+    run_fails _ _ _ _ c.as_slice-records.ensures.items c.loop-x.invariant c.requires c.loop-x-test.true _ c.run_holds.ensures c.if-not-run_holds.true
 
 pub overflow_add-cost : goal.overflow_add-cost
 overflow_add-cost c =
-    let l = rw c.as_slice-records.ensures.items at c.loop-x-test.true in
+    let e = c.as_slice-records.ensures.items in
     let w = c.loop-x.invariant in
-    omega (arith, rw c.as_slice-records.ensures.items at c.cost_of-cost.ensures, cost-small _ _ _ w c.requires l, inside _ _ _ w c.requires l, c.requires.periods.few)
+    let l = c.loop-x-test.true in
+    omega (arith, c.cost_of-cost.ensures, cost-small _ _ _ _ e w c.requires l, inside _ _ _ _ e w c.requires l, c.requires.periods.few)
 
 pub loop-x-preserved : goal.loop-x-preserved
 loop-x-preserved c =
-    let l = rw c.as_slice-records.ensures.items at c.loop-x-test.true in
-    rw c.as_slice-records.ensures.items
-    (run-weighed _ _ _ c.loop-x.invariant c.requires l _ (rw c.as_slice-records.ensures.items at c.run_holds.ensures) c.if-not-run_holds.false _
-    (rw c.as_slice-records.ensures.items at c.cost_of-cost.ensures))
+    run-weighed _ _ _ _ c.as_slice-records.ensures.items c.loop-x.invariant c.requires c.loop-x-test.true
+    _ c.run_holds.ensures c.if-not-run_holds.false _ c.cost_of-cost.ensures
 
 pub returns : goal.returns
-returns c = all_weighed _ _ _ c.loop-x.invariant (rw c.as_slice-records.ensures.items at c.loop-x-test.false)
+returns c = all_weighed _ _ _ _ c.as_slice-records.ensures.items c.loop-x.invariant c.loop-x-test.false

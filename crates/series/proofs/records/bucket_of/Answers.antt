@@ -3,7 +3,6 @@ use Rattle.series.specs.RecordLaws.{record_single}
 use Rattle.series.specs.Series.{record_for}
 use Rattle.terms.specs.AnswerLaws.{figures-refused}
 use Rattle.terms.specs.Refusals.{says}
-use borrow.Author.Rules.{rules}
 use mathlib.Core.Path.{sym, ap, ◌∙◌}
 use Rattle.series.proofs.records.bucket_of.Goals as goal
 

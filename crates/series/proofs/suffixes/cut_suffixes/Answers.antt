@@ -8,7 +8,6 @@ use Rattle.series.specs.SuffixLaws.{Kept, Left, far_all, kept-left, kept_more, l
 use Rattle.first_runs.specs.declared.outlines.Choice.{Choice}
 use Rattle.terms.specs.declared.Rate.{Rate}
 use Rattle.terms.specs.declared.Tariff.{Tariff}
-use borrow.Author.Rules.{rules}
 use lib.ListN.{length, take, drop, set, length-set, length-take}
 use Rattle.terms.specs.Limits.{trace_limit}
 use mathlib.Core.List.{List}
@@ -49,12 +48,6 @@ module _ (t : Tariff) (ds costs₀ counts₀ firsts₀ : List ℕ) (next : ℕ) 
 few-left : (ds : List ℕ) (a : ℕ) → length ds ≤ trace_limit → length (take (length ds - a) (drop a ds)) ≤ trace_limit
 few-left ds a few = omega (arith, length-take (length ds - a) (drop a ds))
 
-end : (t : Tariff) (ds costs₀ counts₀ firsts₀ : List ℕ) (next : ℕ) (costs counts firsts : List ℕ) (begin : Rate) → Keeping t ds costs₀ counts₀ firsts₀ next costs counts firsts begin → next ≤ 0
-    → Kept t ds 0 costs counts firsts
-end t ds costs₀ counts₀ firsts₀ next costs counts firsts begin k l =
-    let e : next ≡ 0 = omega arith in
-    subst (λ (n : ℕ). Kept t ds n costs counts firsts) e k.kept
-
 pub best_first-best-requires : goal.best_first-best-requires
 best_first-best-requires c =
     let k = c.loop-start.invariant in
@@ -67,6 +60,3 @@ loop-start-preserved c =
     step _ _ _ _ _ _ _ _ _ _ k c.loop-start-test.true _
     (search_found _ c.requires.tariff_range _ (few-left c.args.trace.now (c.loop-start.start - 1) c.requires.trace_len_bound) _ _ (left _ _ _ _ _ _ _ _ _ _ k c.loop-start-test.true) _ f)
     f.rate
-
-pub returns : goal.returns
-returns c = end _ _ _ _ _ _ _ _ _ _ c.loop-start.invariant c.loop-start-test.false

@@ -1,18 +1,11 @@
 -- Each turn puts the outline from one period earlier on before those that are kept.
-use Prim.Native.Nat.{ℕ, suc, ◌+◌, ◌-◌, ◌≤◌, ◌<◌}
-use native.Mathlib.Omega.{arith}
-use Rattle.series.specs.Outline.{outline_of}
-use Rattle.series.specs.Series.{cheapest_cut}
-use Rattle.series.specs.SuffixLaws.{Kept, Left, far_all, kept-left, kept_more, left-rests, search_found}
-use Rattle.first_runs.specs.declared.outlines.Choice.{Choice}
+use Prim.Native.Nat.{ℕ, ◌≤◌}
+use Rattle.series.specs.SuffixLaws.{Kept}
 use Rattle.terms.specs.declared.Rate.{Rate}
 use Rattle.terms.specs.declared.Tariff.{Tariff}
-use borrow.Author.Rules.{rules}
-use lib.ListN.{length, take, drop, set, length-set, length-take}
-use Rattle.terms.specs.Limits.{trace_limit}
+use lib.ListN.{length}
 use mathlib.Core.List.{List}
-use borrow.Author.Rules.{part_to_end}
-use mathlib.Core.Path.{◌≡◌, sym, ap, subst, ◌∙◌}
+use mathlib.Core.Path.{◌≡◌}
 use Rattle.series.proofs.suffixes.cut_suffixes.Given as goal
 
 pub record Keeping (t : Tariff) (ds costs₀ counts₀ firsts₀ : List ℕ) (next : ℕ) (costs counts firsts : List ℕ) (begin : Rate) : Type 0 where
