@@ -80,7 +80,7 @@ fn shown(rt: &impl Eprint, word: &[u8]) {
 // A byte that prints as itself, any other by its number, as \x00 to \xff: none reaches a terminal as
 // a command.
 fn byte(rt: &impl Eprint, b: u8) {
-    if (33 <= b) & (b <= 126) {
+    if b.is_ascii_graphic() {
         let _ = rt.eprint(char::from(b));
         return;
     }

@@ -6,13 +6,10 @@ ghost use Rattle.order_text.specs.Text.{ends_figure, ends_line, mark_length};
 pub(crate) fn mark_length(text: &[u8]) -> usize
     ensures { result ≡ mark_length text.now }
 {
-    if text.len() < 3 {
-        return 0;
+    match text {
+        [239, 187, 191, ..] => 3,
+        _ => 0,
     }
-    if (text[0] == 239) & (text[1] == 187) & (text[2] == 191) {
-        return 3;
-    }
-    0
 }
 
 // Whether a byte may stand right behind a figure: a space, a tab, a carriage return, a newline, or
@@ -20,7 +17,7 @@ pub(crate) fn mark_length(text: &[u8]) -> usize
 pub(crate) fn ends_figure(byte: u8) -> bool
     ensures { result ≡ ends_figure byte }
 {
-    (byte == b' ') | (byte == b'\t') | (byte == b'\r') | (byte == b'\n') | (byte == b'#')
+    matches!(byte, b' ' | b'\t' | b'\r' | b'\n' | b'#')
 }
 
 // Whether a byte ends a line: a carriage return, or a newline that does not stand right behind one.

@@ -6,7 +6,7 @@ ghost use Rattle.typed_figures.specs.Decimal.{is_digit, pushed};
 pub fn is_digit(byte: u8) -> bool
     ensures { result ≡ is_digit byte }
 {
-    (b'0' <= byte) & (byte <= b'9')
+    byte.is_ascii_digit()
 }
 
 // A number with one more digit behind it; none where this is above the limit.
