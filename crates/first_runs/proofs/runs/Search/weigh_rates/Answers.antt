@@ -3,7 +3,7 @@ use Rattle.first_runs.specs.SearchLaws.{searching_on, weighed_none, weighed-over
 use mathlib.Core.Path.{refl}
 use native.Mathlib.Omega.{arith}
 use mathlib.Core.Path.{sym, ◌∙◌}
-use Rattle.first_runs.proofs.runs.weigh_rates.Goals as goal
+use Rattle.first_runs.proofs.runs.Search.weigh_rates.Goals as goal
 
 pub returns-then-not-may_better : goal.returns-then-not-may_better
 returns-then-not-may_better c = weighed-over _ _ _ _ _ _ _ (omega (arith, c.requires.low_lt_end)) c.requires.searching _ ((sym refl ∙ c.if-not-may_better.true)) c.may_better.ensures
