@@ -13,17 +13,6 @@ loop-i-init c =
       rw w.walk_value range_started,
     )
 
-pub push-walk-requires : goal.push-walk-requires
-push-walk-requires c =
-    let k = c.requires.searching.rests in
-    record {
-      tariff_range = k.tariffs;
-      high_bound = c.requires.rate_bound;
-      low_bound = c.requires.rate_bound;
-      walk_range = range_more (omega (arith, c.loop-i-test.true, k.few)) c.loop-i.invariant.1;
-      walk_value = c.loop-i.invariant.0.walk.depth;
-    }
-
 pub returns-then-self-i : goal.returns-then-self-i
 returns-then-self-i c =
     weighing_stop _ _ _ _ _ _ c.requires.searching _ _ _ _ c.loop-i.invariant.0
