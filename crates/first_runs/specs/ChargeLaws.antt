@@ -30,7 +30,8 @@ use Rattle.first_runs.specs.Charge.{walk_depth, no_charge, charge_at, Stepped, S
 use Rattle.first_runs.specs.Outline.{unpriced}
 
 -- What carries some periods carries the first of them.
-pub front-carried : (r B y i j : ℕ) (ds : List ℕ) → i ≤ j → carries_from r B y (take j ds) ≡ true → carries_from r B y (take i ds) ≡ true
+pub front-carried : (r B y i j : ℕ) (ds : List ℕ) → i ≤ j → carries_from r B y (take j ds) ≡ true
+    → carries_from r B y (take i ds) ≡ true
 unfolding carries_from
 front-carried r B y zero j ds l h = refl
 front-carried r B y (suc i) zero ds l h = absurd (omega arith)
@@ -53,7 +54,8 @@ module _ (t : Tariff) (ds : List ℕ) where
   charge_least low high r i j B l m n s =
       let p = t.factor.p in
       let q = t.factor.q in
-      let c : carries p q high B (take i ds) ≡ true = front-carried high B _ i j ds n (carries_faster p q r B (take j ds) high m s.carried) in
+      let c : carries p q high B (take i ds) ≡ true =
+      front-carried high B _ i j ds n (carries_faster p q r B (take j ds) high m s.carried) in
       let some = depth-some p q t.depth_cap.0 high (take i ds) B s.depths c in
       subst (λ (o : Answer ℕ). charge_at t low o ≤ charge_of t (bucket_of r B)) (sym some.1)
       (add-le-add (mul-le-mul_left t.rate_price.0 l) (mul-le-mul_left t.depth_price.0 (depth-least p q t.depth_cap.0 high (take i ds) some.1 B c)))
@@ -69,16 +71,19 @@ pushed-stretch r d w = le-max_left w.stretch _
 pub started-depth : (p q limit : ℕ) → depth_from p q limit started ≡ figures 0
 unfolding depth_from
 started-depth p q limit =
-    let z : ceiling (0 * q) p ≡ 0 = le_antisymm (ceiling-le (0 * q) p 0 (le_trans (le_of_eq (zero-mul q)) (omega arith))) (omega arith) in
+    let z : ceiling (0 * q) p ≡ 0 =
+    le_antisymm (ceiling-le (0 * q) p 0 (le_trans (le_of_eq (zero-mul q)) (omega arith))) (omega arith) in
     rw (le-leb 0 limit (omega arith), le-leb (0 * q) (p * limit) (le_trans (le_of_eq (zero-mul q)) (omega arith)), z)
 
 -- Where a period does not raise the opening, the depth is raised to the stretch alone.
-same-opening : (p q limit B : ℕ) (old new : Walk) → depth_from p q limit old ≡ figures B → new.opening ≡ old.opening → old.stretch ≤ new.stretch
+same-opening : (p q limit B : ℕ) (old new : Walk) → depth_from p q limit old ≡ figures B → new.opening ≡ old.opening
+    → old.stretch ≤ new.stretch
     → cond (leb new.stretch limit) (figures (max B new.stretch)) (refused 7) ≡ depth_from p q limit new
 unfolding depth_from
 same-opening p q limit B old new e f l = go (cap_meets p q limit old) refl e
   where
-    go : (b : Bool) → cap_meets p q limit old ≡ b → cond b (figures (max old.stretch (ceiling (old.opening * q) p))) (refused 7) ≡ figures B
+    go : (b : Bool) → cap_meets p q limit old ≡ b
+        → cond b (figures (max old.stretch (ceiling (old.opening * q) p))) (refused 7) ≡ figures B
         → cond (leb new.stretch limit) (figures (max B new.stretch)) (refused 7)
         ≡ cond (leb new.stretch limit && leb (new.opening * q) (p * limit)) (figures (max new.stretch (ceiling (new.opening * q) p))) (refused 7)
     go true h g =
@@ -157,7 +162,8 @@ pub record Stopping (t : Tariff) (known : ℕ) (costs : List ℕ) (from charge :
   pub few : charge < no_charge
   pub all : (j c : ℕ) → from ≤ j → j < length costs → charge ≤ c → known < cost_at t (j + 1) c + get_or costs j 0
   pub below : (i : ℕ) → from ≤ i → i < length costs → get_or stops i 0 < no_charge
-  pub beyond : (i j c : ℕ) → from ≤ i → i ≤ j → j < length costs → get_or stops i 0 ≤ c → known < cost_at t (j + 1) c + get_or costs j 0
+  pub beyond : (i j c : ℕ) → from ≤ i → i ≤ j → j < length costs → get_or stops i 0 ≤ c
+      → known < cost_at t (j + 1) c + get_or costs j 0
 
 module _ (t : Tariff) (known : ℕ) (costs stops : List ℕ) where
   pub stopping_start : (from : ℕ) → length costs ≤ from → Stopping t known costs from 0 stops
@@ -205,11 +211,13 @@ module _ (t : Tariff) (known : ℕ) (costs stops : List ℕ) where
             go true e = subst P (sym (ap (λ (n : ℕ). get_or filled n 0) (eqb-true i from e) ∙ get_or-set_same stops from next 0 room)) new
             go false e = subst P (sym (get_or-set_other stops from i next 0 (eqb-false i from e))) (old (eqb-false i from e))
 
-  pub stopping_end : (charge : ℕ) → length costs ≤ length stops → Stopping t known costs 0 charge stops → Stops t known costs stops
+  pub stopping_end : (charge : ℕ) → length costs ≤ length stops → Stopping t known costs 0 charge stops
+      → Stops t known costs stops
   stopping_end charge room k = record { room = room; below = λ i l. k.below i (omega arith) l; beyond = λ i j c l m n. k.beyond i j c (omega arith) l m n }
 
 -- A smaller cost known is still passed.
-pub stops_lower : {t : Tariff} {known less : ℕ} {costs stops : List ℕ} → less ≤ known → Stops t known costs stops → Stops t less costs stops
+pub stops_lower : {t : Tariff} {known less : ℕ} {costs stops : List ℕ} → less ≤ known → Stops t known costs stops
+    → Stops t less costs stops
 stops_lower l k = record { room = k.room; below = k.below; beyond = λ i j c m n o. lt_of_le_of_lt l (k.beyond i j c m n o) }
 
 -- Charges far out of reach stop no walk.

@@ -28,12 +28,14 @@ module _ (t : Tariff) (room : ℕ) (ds : List ℕ) where
   abbrev answer : Answer Cutting
   answer = series_of t room ds
 
-  pub count-is : (r : Answer Plan) (n : ℕ) → r ≡ plan_of t answer → n ≡ counted (λ x. x.buckets) r → n ≡ counted length answer
+  pub count-is : (r : Answer Plan) (n : ℕ) → r ≡ plan_of t answer → n ≡ counted (λ x. x.buckets) r
+      → n ≡ counted length answer
   count-is r n e f = f ∙ ap (counted (λ x. x.buckets)) e ∙ counted_on (λ x. x.buckets) _ answer
 
   few-periods : (xs : Cutting) → answer ≡ figures xs → length ds ≤ trace_limit
   unfolding series_of
-  few-periods xs e = (periods_range _ (weigh-figures (periods_ok (length ds)) 3 (weigh (tariff_ok t) 5 (weigh (leb (length ds) room) 6 (cheapest_cut t ds))) e).0).few
+  few-periods xs e =
+      (periods_range _ (weigh-figures (periods_ok (length ds)) 3 (weigh (tariff_ok t) 5 (weigh (leb (length ds) room) 6 (cheapest_cut t ds))) e).0).few
 
   -- The records fit the lent list and the array that holds them.
   pub count_fits : (n : ℕ) → n ≡ counted length answer → (n ≤ room) × (n ≤ trace_limit)

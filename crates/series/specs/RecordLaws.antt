@@ -20,7 +20,8 @@ use Rattle.series.specs.Outline.{outline_of}
 use Rattle.series.specs.SuffixLaws.{Kept, outline_from, outline_none, outline_found, outline_plan}
 
 -- The record of a run is what the single call finds for it.
-pub record_single : (t : Tariff) (run : List ℕ) → TariffRange t → PeriodsRange (length run) → run_record t run ≡ record_for (length run) (single_of t run)
+pub record_single : (t : Tariff) (run : List ℕ) → TariffRange t → PeriodsRange (length run)
+    → run_record t run ≡ record_for (length run) (single_of t run)
 unfolding single_of
 record_single t run h few = rw (periods_ok_lem _ few, tariff_ok_lem t h) refl
 
@@ -51,7 +52,8 @@ module _ (t : Tariff) (ds : List ℕ) (all : Cutting) (start k : ℕ) (l : start
   next_run =
       let x = get_or all k no_record in
       let f = e ∙ ap figures (drop-cons all k no_record some_left) in
-      let r = best-runs run_length (run_cost t) (run_record t) (record_whole t) (drop start ds) x (drop (suc k) all) f in
+      let r =
+      best-runs run_length (run_cost t) (run_record t) (record_whole t) (drop start ds) x (drop (suc k) all) f in
       record {
         more = some_left;
         some = r.some;
@@ -74,7 +76,8 @@ pub record Firsts (t : Tariff) (ds firsts : List ℕ) : Type 0 where
 module _ (t : Tariff) (h : TariffRange t) (ds : List ℕ) (few : length ds ≤ trace_limit) (costs counts firsts : List ℕ) (k : Kept t ds 0 costs counts firsts) where
   -- Without a cost no cutting is carried.
   pub kept_none : get_or costs 0 0 ≡ unpriced → cheapest_cut t ds ≡ refused 7
-  kept_none e = outline_none t h ds few (cheapest_cut t ds) (series-is t ds) (sym (k.cost.at 0 (omega arith) (omega arith)) ∙ e)
+  kept_none e =
+      outline_none t h ds few (cheapest_cut t ds) (series-is t ds) (sym (k.cost.at 0 (omega arith) (omega arith)) ∙ e)
 
   -- With one its runs can be recorded, and its figures are the plan's.
   module _ (n : get_or costs 0 0 ≡ unpriced → ⊥) where

@@ -146,7 +146,8 @@ module _ (b c e : ℕ) (s : Span) (k : SpanRange s) where
 
 -- ---- Without the first rate
 
-pub other_low : (rate : ℕ) (s : Span) → s.lo < s.hi → s.lo ≡ rate → Kept (Other rate) s (record { lo = rate + 1; hi = s.hi })
+pub other_low : (rate : ℕ) (s : Span) → s.lo < s.hi → s.lo ≡ rate
+    → Kept (Other rate) s (record { lo = rate + 1; hi = s.hi })
 other_low rate s l e =
     record {
       ordered = omega arith;

@@ -42,11 +42,7 @@ impl Parts {
         let old = self.walk;
         let walk = old.push(rate, demand);
         let periods = self.periods + 1;
-        let ending = if walk.ending == 0 {
-            0
-        } else {
-            self.ending + 1
-        };
+        let ending = if walk.ending == 0 { 0 } else { self.ending + 1 };
         let opening = if old.opening < walk.opening {
             periods
         } else {

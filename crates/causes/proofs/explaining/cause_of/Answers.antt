@@ -87,7 +87,8 @@ overflow_cast-result c =
     omega (arith, opening-fits _ _ _ _ c.requires c.if-depth-eq0.false c.starting_tokens-tokens.ensures c.in-Some.ensures)
 
 pub returns-in-Some : goal.returns-in-Some
-returns-in-Some c = opening-named _ _ _ _ c.requires c.if-depth-eq0.false c.starting_tokens-tokens.ensures c.in-Some.ensures
+returns-in-Some c =
+    opening-named _ _ _ _ c.requires c.if-depth-eq0.false c.starting_tokens-tokens.ensures c.in-Some.ensures
 
 pub stretch_end-last-requires : goal.stretch_end-last-requires
 stretch_end-last-requires c =

@@ -42,12 +42,14 @@ module _ (t : Tariff) (room : ℕ) (ds : List ℕ) where
 pub returns-then-not-periods_in_range : goal.returns-then-not-periods_in_range
 returns-then-not-periods_in_range c =
     let s = c.args in
-    let all = refusal _ _ _ _ c.refused.ensures (no-periods s.tariff s.room s.trace.now ((sym c.periods_in_range.ensures ∙ c.if-not-periods_in_range.true))) in
+    let all =
+    refusal _ _ _ _ c.refused.ensures (no-periods s.tariff s.room s.trace.now ((sym c.periods_in_range.ensures ∙ c.if-not-periods_in_range.true))) in
     record { answer_value = all.0; records_value = all.1 }
 
 pub returns-then-not-tariff_in_range : goal.returns-then-not-tariff_in_range
 returns-then-not-tariff_in_range c =
-    let periods : periods_ok (length c.args.trace.now) ≡ true = (sym c.periods_in_range.ensures ∙ c.if-not-periods_in_range.false) in
+    let periods : periods_ok (length c.args.trace.now) ≡ true =
+    (sym c.periods_in_range.ensures ∙ c.if-not-periods_in_range.false) in
     let s = c.args in
     let all = refusal _ _ _ _ c.refused-then-not-tariff_in_range.ensures
     (no-tariff s.tariff s.room s.trace.now (periods) ((sym c.tariff_in_range.ensures ∙ c.if-not-tariff_in_range.true))) in
@@ -55,7 +57,8 @@ returns-then-not-tariff_in_range c =
 
 pub returns-then-room-periods : goal.returns-then-room-periods
 returns-then-room-periods c =
-    let periods : periods_ok (length c.args.trace.now) ≡ true = (sym c.periods_in_range.ensures ∙ c.if-not-periods_in_range.false) in
+    let periods : periods_ok (length c.args.trace.now) ≡ true =
+    (sym c.periods_in_range.ensures ∙ c.if-not-periods_in_range.false) in
     let figures : tariff_ok c.args.tariff ≡ true = (sym c.tariff_in_range.ensures ∙ c.if-not-tariff_in_range.false) in
     let s = c.args in
     let all = refusal _ _ _ _ c.refused-then-room-periods.ensures
@@ -64,7 +67,8 @@ returns-then-room-periods c =
 
 pub returns : goal.returns
 returns c =
-    let periods : periods_ok (length c.args.trace.now) ≡ true = (sym c.periods_in_range.ensures ∙ c.if-not-periods_in_range.false) in
+    let periods : periods_ok (length c.args.trace.now) ≡ true =
+    (sym c.periods_in_range.ensures ∙ c.if-not-periods_in_range.false) in
     let figures : tariff_ok c.args.tariff ≡ true = (sym c.tariff_in_range.ensures ∙ c.if-not-tariff_in_range.false) in
     let s = c.args in
     let all = subst (λ (a : Answer Cutting). (says c.cheapest.result.answer ≡ plan_of s.tariff a) × (c.cheapest.result.records ≡ held a))

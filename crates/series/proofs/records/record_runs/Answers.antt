@@ -23,7 +23,8 @@ use native.Mathlib.Omega.{arith}
 use Rattle.series.proofs.records.record_runs.Invariants.{Recording}
 use Rattle.series.proofs.records.record_runs.Goals as goal
 
-begin : (t : Tariff) (ds firsts : List ℕ) (records : Cutting) → records ≡ blank → Firsts t ds firsts → Recording t ds records 0 0
+begin : (t : Tariff) (ds firsts : List ℕ) (records : Cutting) → records ≡ blank → Firsts t ds firsts
+    → Recording t ds records 0 0
 begin t ds firsts records e f =
     record {
       cut = f.cut;
@@ -78,9 +79,11 @@ module _ (t : Tariff) (ds : List ℕ) (records : Cutting) (start k : ℕ) (r : R
 
     this_is : (b : Bucket) → run_record t part ≡ figures (record { periods = length part; bucket = b })
         → ◌≡◌ {A = BucketRecord} (record { periods = get_or firsts start 0; bucket = b }) this
-    this_is b e = ap (λ (n : ℕ). record { periods = n; bucket = b }) (sym part_length) ∙ same-figures (sym e ∙ part-record)
+    this_is b e =
+        ap (λ (n : ℕ). record { periods = n; bucket = b }) (sym part_length) ∙ same-figures (sym e ∙ part-record)
 
-    step : (b : Bucket) → run_record t part ≡ figures (record { periods = length part; bucket = b }) → PeriodsRange (length ds)
+    step : (b : Bucket) → run_record t part ≡ figures (record { periods = length part; bucket = b })
+        → PeriodsRange (length ds)
         → Recording t ds (set records k (record { periods = get_or firsts start 0; bucket = b })) (start + get_or firsts start 0) (k + 1)
     step b e p =
         record {
@@ -110,7 +113,8 @@ loop-start-init c = begin _ _ _ _ c.blank_records-records.ensures c.requires.fir
 
 pub slice_bounds-bucket_of-end : goal.slice_bounds-bucket_of-end
 slice_bounds-bucket_of-end c =
-    let run_ends : c.loop-start.start + get_or c.args.firsts.now c.loop-start.start 0 ≤ length c.args.trace.now = ends _ _ _ _ _ c.loop-start.invariant _ c.requires.firsts c.loop-start-test.true in
+    let run_ends : c.loop-start.start + get_or c.args.firsts.now c.loop-start.start 0 ≤ length c.args.trace.now =
+    ends _ _ _ _ _ c.loop-start.invariant _ c.requires.firsts c.loop-start-test.true in
     run_ends
 
 pub bucket_of-bucket-requires : goal.bucket_of-bucket-requires
@@ -119,13 +123,16 @@ bucket_of-bucket-requires c =
     record { periods_range = part_range _ _ _ _ _ c.loop-start.invariant _ f c.loop-start-test.true c.requires.periods_range; tariff_range = c.requires.tariff_range; has_bucket = (_, part-record _ _ _ _ _ c.loop-start.invariant _ f c.loop-start-test.true) }
 
 pub bounds-records-k : goal.bounds-records-k
-bounds-records-k c = k-room _ _ _ _ _ c.loop-start.invariant _ c.requires.firsts c.loop-start-test.true c.requires.periods_range
+bounds-records-k c =
+    k-room _ _ _ _ _ c.loop-start.invariant _ c.requires.firsts c.loop-start-test.true c.requires.periods_range
 
 pub loop-start-smaller : goal.loop-start-smaller
-loop-start-smaller c = omega (arith, c.loop-start-test.true, begins _ _ _ _ _ c.loop-start.invariant _ c.requires.firsts c.loop-start-test.true)
+loop-start-smaller c =
+    omega (arith, c.loop-start-test.true, begins _ _ _ _ _ c.loop-start.invariant _ c.requires.firsts c.loop-start-test.true)
 
 pub loop-start-preserved : goal.loop-start-preserved
-loop-start-preserved c = step _ _ _ _ _ c.loop-start.invariant _ c.requires.firsts c.loop-start-test.true _ c.bucket_of-bucket.ensures c.requires.periods_range
+loop-start-preserved c =
+    step _ _ _ _ _ c.loop-start.invariant _ c.requires.firsts c.loop-start-test.true _ c.bucket_of-bucket.ensures c.requires.periods_range
 
 pub returns : goal.returns
 returns c = end _ _ _ _ _ c.loop-start.invariant c.loop-start-test.false

@@ -30,7 +30,8 @@ module _ (t : Tariff) (ds costs₀ counts₀ firsts₀ : List ℕ) (next : ℕ) 
       let kept = kept-left t ds (next - 1) (omega (arith, k.inside)) costs counts firsts kept_next in
       rw (part_to_end ds (next - 1), add-one (next - 1)) kept
 
-  step : (c : Choice) → c.outline ≡ outline_of t (cheapest_cut t (take (length ds - (next - 1)) (drop (next - 1) ds))) → c.rate.0 ≤ t.rate_cap.0 → let o = c.outline in
+  step : (c : Choice) → c.outline ≡ outline_of t (cheapest_cut t (take (length ds - (next - 1)) (drop (next - 1) ds))) → c.rate.0 ≤ t.rate_cap.0 → let o =
+      c.outline in
       Keeping t ds costs₀ counts₀ firsts₀ (next - 1) (set costs (next - 1) o.cost) (set counts (next - 1) o.buckets) (set firsts (next - 1) o.first) c.rate
   step c e slow =
       let o = c.outline in

@@ -6,4 +6,5 @@ use Rattle.spans.specs.SpanLaws.{kept_then, kept_if, kept_range, kept_same}
 use Rattle.spans.proofs.narrow.by_need.Goals as goal
 
 pub returns : goal.returns
-returns c = kept_if (λ x a. (allows_charge _ _ _ _ x a, allows_cap _ _ _ _ x a)) (kept_then c.cut-cheap.ensures c.cut.ensures)
+returns c =
+    kept_if (λ x a. (allows_charge _ _ _ _ x a, allows_cap _ _ _ _ x a)) (kept_then c.cut-cheap.ensures c.cut.ensures)

@@ -12,5 +12,5 @@ returns c =
     let a = c.args in
     let some = raised_some a.b a.c a.e a.span c.requires.span_range c.if-b-c.false c.if-c-e.false in
     let first : c.div_ceil-first.result ≡ ceiling (a.b - a.c) a.e =
-        c.div_ceil-first.ensures ∙ div_ceil-is (a.b - a.c) a.e some in
+    c.div_ceil-first.ensures ∙ div_ceil-is (a.b - a.c) a.e some in
     rw first (raised_first a.b a.c a.e a.span c.requires.span_range c.if-b-c.false c.if-c-e.false)

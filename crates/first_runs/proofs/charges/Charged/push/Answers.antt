@@ -19,6 +19,8 @@ depth_after-requires c =
 
 pub charge_of-charge-requires : goal.charge_of-charge-requires
 charge_of-charge-requires c =
-    let found : figures c.in-Ok.depth.0 ≡ walk_depth c.args.tariff c.push-walk.result = sym (ap depth_says c.in-Ok.is) ∙ c.depth_after.ensures in
-    let inside : c.in-Ok.depth.0 ≤ c.args.tariff.depth_cap.0 = walk-within _ _ _ _ c.requires.tariff_range.factor.some (sym (found)) in
+    let found : figures c.in-Ok.depth.0 ≡ walk_depth c.args.tariff c.push-walk.result =
+    sym (ap depth_says c.in-Ok.is) ∙ c.depth_after.ensures in
+    let inside : c.in-Ok.depth.0 ≤ c.args.tariff.depth_cap.0 =
+    walk-within _ _ _ _ c.requires.tariff_range.factor.some (sym (found)) in
     record { tariff_range = c.requires.tariff_range; bucket_range = in_range c.args.tariff c.requires.tariff_range c.args.low.0 _ c.requires.low_bound (inside) }

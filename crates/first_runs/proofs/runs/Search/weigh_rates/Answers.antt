@@ -6,7 +6,8 @@ use mathlib.Core.Path.{sym, ◌∙◌}
 use Rattle.first_runs.proofs.runs.Search.weigh_rates.Goals as goal
 
 pub returns-then-not-may_better : goal.returns-then-not-may_better
-returns-then-not-may_better c = weighed-over _ _ _ _ _ _ _ (omega (arith, c.requires.low_lt_end)) c.requires.searching _ ((sym refl ∙ c.if-not-may_better.true)) c.may_better.ensures
+returns-then-not-may_better c =
+    weighed-over _ _ _ _ _ _ _ (omega (arith, c.requires.low_lt_end)) c.requires.searching _ ((sym refl ∙ c.if-not-may_better.true)) c.may_better.ensures
 
 pub loop-next-init : goal.loop-next-init
 loop-next-init c = record { inside = omega (arith, c.requires.low_lt_end); weighed = weighed_none _ _ _ _ _ c.requires.searching }

@@ -3,4 +3,5 @@ use Rattle.first_runs.specs.SearchLaws.{Turns}
 use Rattle.first_runs.proofs.runs.Search.weigh_rates.Given as goal
 
 abbrev pub invariant-loop-next : goal.invariant-loop-next
-invariant-loop-next l = Turns l.self.tariff l.self.trace.now l.self.costs.now l.self.counts.now l.low l.end l.initial.best l.best l.next
+invariant-loop-next l =
+    Turns l.self.tariff l.self.trace.now l.self.costs.now l.self.counts.now l.low l.end l.initial.best l.best l.next
