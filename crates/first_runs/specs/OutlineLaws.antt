@@ -44,16 +44,6 @@ pub dearer_not_ahead : (x y : Outline) → x.cost < y.cost → ahead y x ≡ fal
 unfolding ahead
 dearer_not_ahead x y h = not_smaller _ _ _ (le_of_lt h) (λ e. absurd (omega arith))
 
--- What costs less is ahead, and between equal costs the buckets and the first run decide.
-pub cheaper_ahead : (x y : Outline) → x.cost < y.cost → ahead x y ≡ true
-unfolding ahead smaller
-cheaper_ahead x y h = rw (lt-ltb x.cost y.cost h)
-
-pub same-cost-ahead : (x y : Outline) → x.cost ≡ y.cost
-    → ahead x y ≡ ltb x.buckets y.buckets || eqb x.buckets y.buckets && ltb y.first x.first
-unfolding ahead smaller
-same-cost-ahead x y e = rw (le-ltb x.cost y.cost (le_of_eq (sym e)), eq-eqb x.cost y.cost e)
-
 -- What only costs at least as much is not ahead, nor is what has more buckets besides.
 pub alike_not_ahead : (x y : Outline) → x.cost ≤ y.cost → y.buckets ≡ x.buckets → y.first ≡ x.first → ahead y x ≡ false
 unfolding ahead

@@ -173,14 +173,6 @@ module _ (t : Tariff) (ds costs counts : List ℕ) where
         rate = w.rate;
       }
 
-  -- The search begins with no cutting, and at no charge does it stop.
-  pub none_searching : {far : List ℕ} → Far far → Rests → (begin : Rate) → begin.0 ≤ t.rate_cap.0
-      → Searching far (record { outline = no_outline; rate = begin })
-  none_searching {far} f k begin slow = record { rests = k; stopped = stops_far t costs far (omega (arith, k.costs_all, k.few)) f; kind = inl refl; rate = slow }
-
-  pub rests-costs : Rests → CostRange costs
-  rests-costs k = record { few = omega (arith, k.costs_all, k.few); each = λ i l. k.cost i (omega (arith, k.costs_all)) }
-
   pub weighed_none : {stops : List ℕ} {c : Choice} (low : ℕ) → Searching stops c → Weighed low low c c
   weighed_none low k = record { kind = k.kind; rate = k.rate; kept = ahead_self _; passed = λ r i l m n. absurd (omega arith) }
 
@@ -206,11 +198,6 @@ module _ (t : Tariff) (ds costs counts : List ℕ) where
   pub record Turns (low end : ℕ) (old new : Choice) (next : ℕ) : Type 0 where
     pub inside : next ≤ end
     pub weighed : Weighed low next old new
-
-  pub turns_end : (low end last : ℕ) (old new : Choice) (next : ℕ) → end ≡ last → Turns low end old new next
-      → end ≤ next → Weighed low last old new
-  turns_end low end last old new next e k l =
-      subst (λ (n : ℕ). Weighed low n old new) (le_antisymm k.inside l ∙ e) k.weighed
 
   -- No rate above the greatest demand need be weighed: at that demand depth 0 carries.
   weighed_all : {old new : Choice} → Weighed 0 (weighed t ds) old new → (r i : ℕ) → r ≤ t.rate_cap.0 → i < length ds

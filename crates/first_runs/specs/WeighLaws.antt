@@ -92,10 +92,6 @@ module _ (t : Tariff) (ds costs counts stops : List ℕ) (found : Choice) (k : S
           go true e = stopped-passed high low i c n p.walk l s found.outline (le_refl _) m r j a b (leb-true _ _ e) z
           go false e = p.passed r j a b (leb-false _ _ e)
 
-    pub passing_end : (i : ℕ) (c : Charged) → Passing t ds costs counts found low high c i → length ds ≤ i → (r j : ℕ)
-        → low ≤ r → r ≤ high → j < length ds → Passed t ds costs counts found.outline r j
-    passing_end i c p l r j a b z = p.passed r j a b (omega arith)
-
   -- ---- Weighing one rate
 
   module _ (r : ℕ) where
@@ -115,8 +111,6 @@ module _ (t : Tariff) (ds costs counts stops : List ℕ) (found : Choice) (k : S
         }
 
     module _ (best : Choice) (i : ℕ) (c : Charged) (g : Weighing t ds costs counts found r best c i) where
-      pub weighing_end : length ds ≤ i → Weighed t ds costs counts r (r + 1) found best
-      weighing_end l = all_weighed best g.kind g.rate g.kept (λ j z. g.passed j (omega arith))
 
       module _ (n : Charged) (l : i < length ds) (s : Stepped t r r (get_or ds i 0) c n) where
         pub weighing_stop : get_or stops i 0 ≤ n.charge → Weighed t ds costs counts r (r + 1) found best
