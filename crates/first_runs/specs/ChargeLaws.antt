@@ -1,8 +1,8 @@
 -- A walk's charge is the least at every rate up to the walk's and for every longer run: a faster bucket needs no more
 -- depth, a longer run no less. And the charges at which a walk can stop.
 -- Assumes nothing.
-use Rattle.std.specs.Prelude.{ℕ, zero, suc, ◌+◌, ◌-◌, ◌*◌, ◌/◌, ◌≤◌, ◌<◌, max, ◌≡◌, refl, Bool, true, false, cond, ◌&&◌, List, [], ◌∷◌, eqb, leb, length, take, get_or, set}
-use Rattle.std.proofs.Common.{arith, le_of_eq, le_trans, le_antisymm, lt_of_le_of_lt, add-le-add, zero-mul, mul-le-mul_left, mul-one, div-lt_iff_lt-mul, div-le_self, sym, subst, ◌∙◌, eqb-true, le-leb, get_or-set_same, get_or-set_other}
+use Rattle.std.specs.Prelude.{ℕ, zero, suc, ◌+◌, ◌*◌, ◌≤◌, ◌<◌, max, ◌≡◌, refl, Bool, true, false, cond, ◌&&◌, List, [], ◌∷◌, eqb, leb, length, take, get_or, set}
+use Rattle.std.proofs.Common.{arith, le_of_eq, le_trans, le_antisymm, lt_of_le_of_lt, add-le-add, zero-mul, mul-le-mul_left, mul-one, sym, subst, ◌∙◌, eqb-true, le-leb}
 use Rattle.std.proofs.Math.Nat.{max-le, le-max_left, le-max_right}
 use Rattle.std.proofs.Math.Path.{ap}
 use Rattle.std.proofs.Math.Bool.{and-true}
@@ -11,10 +11,10 @@ use Rattle.terms.specs.declared.Tariff.{Tariff}
 use Rattle.terms.specs.Answer.{Answer, figures, refused}
 use Rattle.terms.specs.AnswerLaws.{figures-refused, same-figures}
 use Rattle.terms.specs.Bools.{and_both, both_and}
-use Rattle.terms.specs.Limits.{rate_limit, trace_limit}
+use Rattle.terms.specs.Limits.{trace_limit}
 use Rattle.terms.specs.RangeRules.{BucketRange, FactorRange, TariffRange}
 use Rattle.bucket.specs.Step.{over, held}
-use Rattle.bucket.specs.Trace.{Demands, carries, carries_from}
+use Rattle.bucket.specs.Trace.{carries, carries_from}
 use Rattle.bucket.specs.Laws.{carries_faster}
 use Rattle.depth.specs.declared.walk.Walk.{Walk}
 use Rattle.depth.specs.CeilingLaws.{ceiling-le}
@@ -22,11 +22,10 @@ use Rattle.depth.specs.Depth.{tariff_depth}
 use Rattle.depth.specs.DepthLaws.{depth-some, depth-least, depth-walk}
 use Rattle.depth.specs.Walk.{started, pushed, walk_of, ceiling, cap_meets, depth_from}
 use Rattle.depth.specs.WalkLaws.{walk_next}
-use Rattle.depth.specs.WalkRanges.{WalkRange, walk_range_take, range_more}
 use Rattle.single.specs.Cost.{charge_of, cost_at}
 use Rattle.single.specs.Single.{Serves, bucket_of}
 use Rattle.first_runs.specs.declared.charges.Charged.{Charged}
-use Rattle.first_runs.specs.Charge.{walk_depth, no_charge, charge_at, Stepped, StopsAt, Stops, Far}
+use Rattle.first_runs.specs.Charge.{walk_depth, no_charge, charge_at, Stepped, Stops, Far}
 use Rattle.first_runs.specs.Outline.{unpriced}
 
 -- What carries some periods carries the first of them.
@@ -128,7 +127,6 @@ module _ (t : Tariff) (high : ℕ) (ds : List ℕ) where
       record { inside = omega arith; walk = e; depth = ap (walk_depth t) e ∙ started-depth t.factor.p t.factor.q t.depth_cap.0 ∙ ap figures (sym f) }
 
   module _ (i : ℕ) (c : Charged) (k : Walked t high ds i c) (l : i < length ds) where
-
     module _ (low : ℕ) (n : Charged) (s : Stepped t high low (get_or ds i 0) c n) where
       stepped_walk : n.walk ≡ walk_of high (take (i + 1) ds)
       stepped_walk = s.walked ∙ ap (λ (w : Walk). pushed high w (get_or ds i 0)) k.walk ∙ sym (walk_next high ds i l)
@@ -153,7 +151,6 @@ pub record Stopping (t : Tariff) (known : ℕ) (costs : List ℕ) (from charge :
       → known < cost_at t (j + 1) c + get_or costs j 0
 
 module _ (t : Tariff) (known : ℕ) (costs stops : List ℕ) where
-
   module _ (from charge stop : ℕ) (room : from < length stops) (k : Stopping t known costs (suc from) charge stops) (low : stop < no_charge)
       (here : (c : ℕ) → stop ≤ c → known < cost_at t (from + 1) c + get_or costs from 0) where
     abbrev next : ℕ

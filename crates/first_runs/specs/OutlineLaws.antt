@@ -1,8 +1,7 @@
 -- The order of outlines: "not ahead" is a total preorder, and of two different outlines one is ahead.
 -- Assumes nothing.
-use Rattle.std.specs.Prelude.{ℕ, ◌≤◌, ◌<◌, ◌≡◌, true, false, ◌&&◌, ◌||◌, ltb, eqb}
-use Rattle.std.proofs.Common.{arith, le_trans, le_of_eq, le_of_lt, le_antisymm, sym, ap, ◌∙◌, ltb-true, ltb-false, le-ltb, lt-ltb, eq-eqb}
-use Rattle.single.specs.Preference.{smaller}
+use Rattle.std.specs.Prelude.{ℕ, ◌≤◌, ◌<◌, ◌≡◌, true, false}
+use Rattle.std.proofs.Common.{arith, le_trans, le_of_lt, le_antisymm, ap, ◌∙◌, ltb-true, ltb-false, le-ltb}
 use Rattle.single.specs.PreferenceLaws.{not_smaller, smaller_not, smaller-trans, smaller-same, smaller-asym}
 use Rattle.first_runs.specs.declared.outlines.Outline.{Outline}
 use Rattle.first_runs.specs.Outline.{ahead}

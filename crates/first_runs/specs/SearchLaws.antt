@@ -2,11 +2,10 @@
 -- what is found, is not chosen before what is found.
 -- Assumes nothing.
 use Rattle.std.specs.Prelude.{ℕ, ◌+◌, ◌≤◌, ◌<◌, ◌≡◌, Bool, true, false, cond, List, ◌⊎◌, leb, length, take, get_or}
-use Rattle.std.proofs.Common.{arith, le_refl, le_trans, le_of_eq, le_antisymm, add-le-add, sym, ap, ◌∙◌, inl, inr, ⊎_elim, leb-true, leb-false}
+use Rattle.std.proofs.Common.{arith, le_refl, le_trans, le_of_eq, add-le-add, sym, ap, inr, ⊎_elim, leb-true, leb-false}
 use Rattle.std.proofs.Math.Nat.{mul-le-mul_right}
 use Rattle.std.proofs.Math.Path.{refl, subst}
 use Rattle.std.proofs.Math.Seq.{take-length}
-use Rattle.terms.specs.declared.Rate.{Rate}
 use Rattle.terms.specs.declared.Tariff.{Tariff}
 use Rattle.terms.specs.Answer.{figures}
 use Rattle.terms.specs.Bools.{true-false}
@@ -22,8 +21,8 @@ use Rattle.single.specs.Rates.{greatest, weighed}
 use Rattle.single.specs.Single.{Serves, bucket_of}
 use Rattle.first_runs.specs.declared.outlines.Choice.{Choice}
 use Rattle.first_runs.specs.declared.outlines.Outline.{Outline}
-use Rattle.first_runs.specs.Charge.{charge_at, CostRange, Stops, Far}
-use Rattle.first_runs.specs.ChargeLaws.{front-carried, charge_least, stops_lower, stops_far}
+use Rattle.first_runs.specs.Charge.{charge_at, Stops}
+use Rattle.first_runs.specs.ChargeLaws.{front-carried, charge_least, stops_lower}
 use Rattle.first_runs.specs.Outline.{unpriced, no_outline, begun, ahead, better_choice}
 use Rattle.first_runs.specs.OutlineLaws.{not_ahead-trans, ahead-asym, ahead_self, not_ahead-cost, dearer_not_ahead, alike_not_ahead, more_not_ahead}
 

@@ -111,7 +111,6 @@ module _ (t : Tariff) (ds costs counts stops : List ℕ) (found : Choice) (k : S
         }
 
     module _ (best : Choice) (i : ℕ) (c : Charged) (g : Weighing t ds costs counts found r best c i) where
-
       module _ (n : Charged) (l : i < length ds) (s : Stepped t r r (get_or ds i 0) c n) where
         pub weighing_stop : get_or stops i 0 ≤ n.charge → Weighed t ds costs counts r (r + 1) found best
         weighing_stop m = all_weighed best g.kind g.rate g.kept (λ j z. go j z (leb i j) refl)

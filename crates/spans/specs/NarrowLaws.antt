@@ -1,7 +1,7 @@
 -- What a bucket that carries a trace says of the parts of a walk at any rate, and what these say of the lines that cut.
 -- Assumes nothing.
-use Rattle.std.specs.Prelude.{ℕ, ◌+◌, ◌*◌, ◌≤◌, ◌<◌, true, List, ◌≡◌, refl, take}
-use Rattle.std.proofs.Common.{arith, le_trans, mul-le-mul, mul-le-mul_left, sym, subst}
+use Rattle.std.specs.Prelude.{ℕ, ◌+◌, ◌*◌, ◌≤◌, ◌<◌, true, List, ◌≡◌, take}
+use Rattle.std.proofs.Common.{arith, le_trans, mul-le-mul, mul-le-mul_left}
 use Rattle.terms.specs.declared.Factor.{Factor}
 use Rattle.terms.specs.declared.Tariff.{Tariff}
 use Rattle.terms.specs.Limits.{demand_limit, rate_limit, trace_limit, price_limit, parts_limit, depth_limit}
@@ -15,7 +15,7 @@ use Rattle.depth.specs.WalkLaws.{Enough, carried-enough}
 use Rattle.spans.specs.declared.narrow.Line.{Line}
 use Rattle.spans.specs.declared.parts.Parts.{Parts}
 use Rattle.spans.specs.Narrow.{Allows, LineRange, Serving, charge_end}
-use Rattle.spans.specs.Parts.{PartsRange, PartsAt}
+use Rattle.spans.specs.Parts.{PartsAt}
 
 -- A bucket inside the cap that carries the periods walked and charges less than `dear` leaves its rate possible,
 -- at whatever rate the walk was.

@@ -9,7 +9,7 @@ use Rattle.std.proofs.lemmas.Bool.{eqb-false}
 use Rattle.terms.specs.Limits.{demand_limit, rate_limit, trace_limit}
 use Rattle.bucket.specs.Trace.{Demands}
 use Rattle.depth.specs.declared.walk.Walk.{Walk}
-use Rattle.depth.specs.Walk.{started, pushed, walk_of}
+use Rattle.depth.specs.Walk.{pushed, walk_of}
 use Rattle.depth.specs.WalkLaws.{walk_next}
 use Rattle.depth.specs.WalkRanges.{WalkRange, range_started, range_pushed, range_more}
 use Rattle.spans.specs.declared.parts.Parts.{Parts}

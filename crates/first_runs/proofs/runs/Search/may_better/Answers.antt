@@ -2,7 +2,7 @@
 -- one is.
 use native.Mathlib.Nat.{le_trans}
 use native.Mathlib.Omega.{arith}
-use Rattle.depth.specs.WalkRanges.{range_more, range_pushed, range_started}
+use Rattle.depth.specs.WalkRanges.{range_pushed, range_started}
 use Rattle.first_runs.specs.ChargeLaws.{walked_start}
 use Rattle.first_runs.specs.WeighLaws.{charge_limit, passing_start, passing_next, passing_stop}
 use Rattle.first_runs.proofs.runs.Search.may_better.Goals as goal

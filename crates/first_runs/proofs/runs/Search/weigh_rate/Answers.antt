@@ -1,7 +1,7 @@
 -- After i turns the runs of 1 to i periods are weighed at this rate; where the walk stops, the longer ones cost more.
 use native.Mathlib.Nat.{le_trans}
 use native.Mathlib.Omega.{arith}
-use Rattle.depth.specs.WalkRanges.{range_more, range_pushed, range_started}
+use Rattle.depth.specs.WalkRanges.{range_pushed, range_started}
 use Rattle.first_runs.specs.ChargeLaws.{walked_start}
 use Rattle.first_runs.specs.WeighLaws.{charge_limit, weighing_start, weighing_next, weighing_stop}
 use Rattle.first_runs.proofs.runs.Search.weigh_rate.Goals as goal
