@@ -67,7 +67,8 @@ impl<'a> Search<'a> {
     }
 
     // Whether some run at a rate from low to high may cost as little as what is found: none costs less
-    // than the low rate with the depth that the high one needs.
+    // than the low rate with the depth that the high one needs. It walks as a weighing does, but each of the
+    // two loops ends in its own way, and one loop for both would call a closure in each period.
     fn may_better(self, low: Rate, high: Rate, found: Choice) -> bool
         requires low_le_high { low.0 ≤ high.0 }
         requires high_bound { high.0 ≤ self.tariff.rate_cap.0 }

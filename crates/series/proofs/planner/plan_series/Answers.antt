@@ -43,7 +43,8 @@ pub returns-then-not-periods_in_range : goal.returns-then-not-periods_in_range
 returns-then-not-periods_in_range c =
     let s = c.args in
     let all =
-    refusal _ _ _ _ c.refused.ensures (no-periods s.tariff s.room s.trace.now ((sym c.periods_in_range.ensures ∙ c.if-not-periods_in_range.true))) in
+    refusal _ _ _ _ c.refused.ensures
+    (no-periods s.tariff s.room s.trace.now ((sym c.periods_in_range.ensures ∙ c.if-not-periods_in_range.true))) in
     record { answer_value = all.0; records_value = all.1 }
 
 pub returns-then-not-tariff_in_range : goal.returns-then-not-tariff_in_range

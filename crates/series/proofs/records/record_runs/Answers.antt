@@ -120,7 +120,11 @@ slice_bounds-bucket_of-end c =
 pub bucket_of-bucket-requires : goal.bucket_of-bucket-requires
 bucket_of-bucket-requires c =
     let f = c.requires.firsts in
-    record { periods_range = part_range _ _ _ _ _ c.loop-start.invariant _ f c.loop-start-test.true c.requires.periods_range; tariff_range = c.requires.tariff_range; has_bucket = (_, part-record _ _ _ _ _ c.loop-start.invariant _ f c.loop-start-test.true) }
+    record {
+      periods_range = part_range _ _ _ _ _ c.loop-start.invariant _ f c.loop-start-test.true c.requires.periods_range;
+      tariff_range = c.requires.tariff_range;
+      has_bucket = (_, part-record _ _ _ _ _ c.loop-start.invariant _ f c.loop-start-test.true);
+    }
 
 pub bounds-records-k : goal.bounds-records-k
 bounds-records-k c =
@@ -128,11 +132,13 @@ bounds-records-k c =
 
 pub loop-start-smaller : goal.loop-start-smaller
 loop-start-smaller c =
-    omega (arith, c.loop-start-test.true, begins _ _ _ _ _ c.loop-start.invariant _ c.requires.firsts c.loop-start-test.true)
+    omega
+    (arith, c.loop-start-test.true, begins _ _ _ _ _ c.loop-start.invariant _ c.requires.firsts c.loop-start-test.true)
 
 pub loop-start-preserved : goal.loop-start-preserved
 loop-start-preserved c =
-    step _ _ _ _ _ c.loop-start.invariant _ c.requires.firsts c.loop-start-test.true _ c.bucket_of-bucket.ensures c.requires.periods_range
+    step _ _ _ _ _ c.loop-start.invariant _ c.requires.firsts c.loop-start-test.true _ c.bucket_of-bucket.ensures
+    c.requires.periods_range
 
 pub returns : goal.returns
 returns c = end _ _ _ _ _ c.loop-start.invariant c.loop-start-test.false

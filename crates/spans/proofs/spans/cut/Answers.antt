@@ -1,3 +1,4 @@
+-- A line with two slopes is one with their difference.
 use Rattle.spans.specs.SpanLaws.{cut_rising, cut_falling}
 use Rattle.spans.proofs.spans.cut.Goals as goal
 

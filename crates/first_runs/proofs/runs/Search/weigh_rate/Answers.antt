@@ -26,7 +26,8 @@ cost_with-requires c =
       tariff_range = k.rests.tariffs;
       i_lt_trace_limit = omega (arith, c.loop-i-test.true, k.rests.few);
       charge_le_period_limit =
-          charge_limit _ _ _ _ _ _ k _ _ _ _ _ w c.loop-i-test.true c.push-walk.ensures c.requires.rate_bound c.if-self-i.false;
+          charge_limit _ _ _ _ _ _ k _ _ _ _ _ w c.loop-i-test.true c.push-walk.ensures c.requires.rate_bound
+          c.if-self-i.false;
       rest_le_unpriced = k.rests.cost _ c.loop-i-test.true;
     }
 
