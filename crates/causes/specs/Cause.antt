@@ -71,7 +71,8 @@ short_stretch r ds C = and_then (stretch_end r C ds) (λ v. on_figures (λ u. st
 
 -- Nothing at depth 0. Else what a depth one smaller falls short of: an opening goes before a stretch.
 unfoldable pub cause_of : Tariff → ℕ → List ℕ → ℕ → SetBy
-cause_of t r ds B = cond (eqb B 0) nothing (figure_or (short_opening t r ds (B - 1)) (figure_or (short_stretch r ds (B - 1)) nothing))
+cause_of t r ds B =
+    cond (eqb B 0) nothing (figure_or (short_opening t r ds (B - 1)) (figure_or (short_stretch r ds (B - 1)) nothing))
 
 -- What a search of the code says: the number found, or none.
 abbrev pub number_found : Option ℕ → Answer ℕ

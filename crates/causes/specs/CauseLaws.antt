@@ -39,7 +39,8 @@ module _ (t : Tariff) (r : ℕ) (ds : List ℕ) {B : ℕ} (e : depth_of t r ds �
     where
       above : (h : 1 ≤ B) → Found t r ds (B - 1) → IsCause t r ds B cause
       above h (opens v o) = subst (IsCause t r ds B) (sym (cause-opens t r ds e h v o)) (opening-is t r ds e h v o)
-      above h (stretches u v n o f g) = subst (IsCause t r ds B) (sym (cause-stretches t r ds e h u v n o f g)) (stretch-is t r ds e h u v n o f g)
+      above h (stretches u v n o f g) =
+          subst (IsCause t r ds B) (sym (cause-stretches t r ds e h u v n o f g)) (stretch-is t r ds e h u v n o f g)
 
       go : (b : Bool) → eqb B 0 ≡ b → IsCause t r ds B cause
       go true z = subst (IsCause t r ds B) (sym (nothing-at_0 t r ds B (eqb-true B 0 z))) (eqb-true B 0 z)
@@ -53,5 +54,6 @@ module _ (t : Tariff) (r : ℕ) (ds : List ℕ) {B : ℕ} (e : depth_of t r ds �
   pub empty_not_opening : t.factor.p ≡ 0 → (v : ℕ) → cause ≡ opening v → ⊥
   empty_not_opening z v h =
       let k : OpeningShort r (start_at t (B - 1)) ds v = subst (IsCause t r ds B) h cause-true in
-      let n : need_before r ds ≤ start_of 0 t.factor.q B = subst (λ (p : ℕ). need_before r ds ≤ start_of p t.factor.q B) z (depth_meets t r ds e).first in
+      let n : need_before r ds ≤ start_of 0 t.factor.q B =
+      subst (λ (p : ℕ). need_before r ds ≤ start_of p t.factor.q B) z (depth_meets t r ds e).first in
       omega (arith, k.short_of, front_need r v ds, n, start_empty t.factor.q B)

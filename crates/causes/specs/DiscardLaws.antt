@@ -29,11 +29,13 @@ pub short-discards : (r B y : ℕ) (es : List ℕ) → y < need_of r es → carr
 short-discards r B y es h = not_true-false _ (λ e. omega (arith, (carried_meets r B y es e).first, all_needed r es))
 
 -- So a depth one smaller, fresh, does not carry the opening that is named …
-pub opening-discards : (t : Tariff) (r : ℕ) (ds : List ℕ) (B v : ℕ) → IsCause t r ds B (opening v) → carries_from r (B - 1) (start_at t (B - 1)) (from_to 1 v ds) ≡ false
+pub opening-discards : (t : Tariff) (r : ℕ) (ds : List ℕ) (B v : ℕ) → IsCause t r ds B (opening v)
+    → carries_from r (B - 1) (start_at t (B - 1)) (from_to 1 v ds) ≡ false
 opening-discards t r ds B v k = short-discards r (B - 1) _ _ k.short_of
 
 -- … and however full it is, it does not carry the stretch.
-pub stretch-discards : (t : Tariff) (r : ℕ) (ds : List ℕ) (B u v : ℕ) → IsCause t r ds B (stretch u v) → (y : ℕ) → y ≤ B - 1 → carries_from r (B - 1) y (from_to u v ds) ≡ false
+pub stretch-discards : (t : Tariff) (r : ℕ) (ds : List ℕ) (B u v : ℕ) → IsCause t r ds B (stretch u v) → (y : ℕ)
+    → y ≤ B - 1 → carries_from r (B - 1) y (from_to u v ds) ≡ false
 stretch-discards t r ds B u v k y l = short-discards r (B - 1) y _ (omega (arith, k.short_of))
 
 -- ---- Sums of first periods
@@ -102,7 +104,8 @@ module _ (t : Tariff) (r : ℕ) (ds : List ℕ) {B : ℕ} (e : depth_of t r ds �
   -- Periods whose openings and stretches are all met are carried.
   front-carried : (n : ℕ) → n ≤ length ds → ((w : ℕ) → 1 ≤ w → w ≤ n → need_of r (from_to 1 w ds) ≤ y)
       → ((w : ℕ) → 2 ≤ w → w ≤ n → StretchesMet r C ds w) → carries_from r C y (take n ds) ≡ true
-  front-carried n l openings stretches = meets_carried r C y (take n ds) (all_met r (take n ds) y C (λ w i m. opens w i (inside w m)) (λ w i m u h j. ends w i (inside w m) u h j))
+  front-carried n l openings stretches =
+      meets_carried r C y (take n ds) (all_met r (take n ds) y C (λ w i m. opens w i (inside w m)) (λ w i m u h j. ends w i (inside w m) u h j))
     where
       inside : (w : ℕ) → w ≤ length (take n ds) → w ≤ n
       inside w m = omega (arith, length-take-le n ds l)
@@ -111,7 +114,8 @@ module _ (t : Tariff) (r : ℕ) (ds : List ℕ) {B : ℕ} (e : depth_of t r ds �
       opens w i m = subst (λ (es : List ℕ). need_of r es ≤ y) (sym (take-take w n ds m)) (openings w i m)
 
       ends : (w : ℕ) → 2 ≤ w → w ≤ n → StretchesMet r C (take n ds) w
-      ends w i m u h j = subst (λ (es : List ℕ). need_of r (drop (u - 1) es) ≤ C) (sym (take-take w n ds m)) (stretches w i m u h j)
+      ends w i m u h j =
+          subst (λ (es : List ℕ). need_of r (drop (u - 1) es) ≤ C) (sym (take-take w n ds m)) (stretches w i m u h j)
 
   -- Period v is the first in which a fresh bucket one smaller discards.
   pub record FirstDiscards (v : ℕ) : Type 0 where
@@ -135,6 +139,7 @@ module _ (t : Tariff) (r : ℕ) (ds : List ℕ) {B : ℕ} (e : depth_of t r ds �
             (λ w i m. k.least_last w i (omega (arith, k.late, k.ordered)));
         discards = not_true-false _ (λ f.
             let i : suc (u - 2) ≡ u - 1 = omega (arith, k.late) in
-            let a = subst (λ (j : ℕ). need_before r (drop j (take v ds)) ≤ C) i ((carried_meets r C y (take v ds) f).later (u - 2)) in
+            let a =
+            subst (λ (j : ℕ). need_before r (drop j (take v ds)) ≤ C) i ((carried_meets r C y (take v ds) f).later (u - 2)) in
             omega (arith, a, all_needed r (from_to u v ds), k.short_of));
       }

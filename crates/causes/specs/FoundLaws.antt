@@ -70,7 +70,8 @@ module _ (r : ℕ) (ds : List ℕ) where
   part n m h = ap (drop n) (take-add n m ds) ∙ drop_at (take n ds) (take m (drop n ds)) n (length-take-le n ds h)
 
   -- A bucket that no opening and no stretch is short for meets the needs before every period.
-  pub all_met : (y C : ℕ) → OpeningsMet r y ds → ((w : ℕ) → 2 ≤ w → w ≤ length ds → StretchesMet r C ds w) → Meets r C y ds
+  pub all_met : (y C : ℕ) → OpeningsMet r y ds → ((w : ℕ) → 2 ≤ w → w ≤ length ds → StretchesMet r C ds w)
+      → Meets r C y ds
   all_met y C openings stretches = record { first = fronts_met r y ds openings; later = later }
     where
       later : (n : ℕ) → need_before r (drop (suc n) ds) ≤ C
@@ -100,7 +101,8 @@ module _ (t : Tariff) (r : ℕ) (ds : List ℕ) where
   -- An opening, or else a stretch.
   pub data Found (C : ℕ) : Type 0 where
     opens : (v : ℕ) → opening_end r (start_at t C) ds ≡ figures v → Found C
-    stretches : (u v n : ℕ) → opening_end r (start_at t C) ds ≡ refused n → stretch_end r C ds ≡ figures v → stretch_start r C ds v ≡ figures u → Found C
+    stretches : (u v n : ℕ) → opening_end r (start_at t C) ds ≡ refused n → stretch_end r C ds ≡ figures v
+        → stretch_start r C ds v ≡ figures u → Found C
 
   module _ {B : ℕ} (e : depth_of t r ds ≡ figures B) (h : 1 ≤ B) where
     abbrev C : ℕ
@@ -111,20 +113,25 @@ module _ (t : Tariff) (r : ℕ) (ds : List ℕ) where
     not_met k = omega (arith, depth_meets_least t r ds e C k)
 
     pub found : Found C
-    found = opening_search (opening_end r (start_at t C) ds) refl (from_is (λ v. short r (start_at t C) ds 1 v) (length ds) 1)
+    found =
+        opening_search (opening_end r (start_at t C) ds) refl (from_is (λ v. short r (start_at t C) ds 1 v) (length ds) 1)
       where
-        start_search : (v n : ℕ) → opening_end r (start_at t C) ds ≡ refused n → stretch_end r C ds ≡ figures v → (x : Answer ℕ) → stretch_start r C ds v ≡ x → is_found x ≡ true → Found C
+        start_search : (v n : ℕ) → opening_end r (start_at t C) ds ≡ refused n → stretch_end r C ds ≡ figures v
+            → (x : Answer ℕ) → stretch_start r C ds v ≡ x → is_found x ≡ true → Found C
         start_search v n o f (figures u) g k = stretches u v n o f g
         start_search v n o f (refused m) g k = absurd (true-false k refl)
 
         end_search : (n : ℕ) → opening_end r (start_at t C) ds ≡ refused n → OpeningsMet r (start_at t C) ds
             → (x : Answer ℕ) → stretch_end r C ds ≡ x → IsFirstFrom (λ v. is_found (stretch_start r C ds v)) (length ds - 1) 2 x → Found C
         end_search n o m (figures v) f k = start_search v n o f (stretch_start r C ds v) refl k.passes
-        end_search n o m (refused j) f k = absurd (not_met (all_met r ds (start_at t C) C m (λ w i l. none_stretches r ds C w (k.1 w i (omega arith)))))
+        end_search n o m (refused j) f k =
+            absurd (not_met (all_met r ds (start_at t C) C m (λ w i l. none_stretches r ds C w (k.1 w i (omega arith)))))
 
-        opening_search : (x : Answer ℕ) → opening_end r (start_at t C) ds ≡ x → IsFirstFrom (λ v. short r (start_at t C) ds 1 v) (length ds) 1 x → Found C
+        opening_search : (x : Answer ℕ) → opening_end r (start_at t C) ds ≡ x
+            → IsFirstFrom (λ v. short r (start_at t C) ds 1 v) (length ds) 1 x → Found C
         opening_search (figures v) o k = opens v o
-        opening_search (refused n) o k = end_search n o (none_opens r ds (start_at t C) k.1) (stretch_end r C ds) refl (from_is (λ v. is_found (stretch_start r C ds v)) (length ds - 1) 2)
+        opening_search (refused n) o k =
+            end_search n o (none_opens r ds (start_at t C) k.1) (stretch_end r C ds) refl (from_is (λ v. is_found (stretch_start r C ds v)) (length ds - 1) 2)
 
     -- The cause is what the searches find.
     above : eqb B 0 ≡ false
@@ -134,14 +141,16 @@ module _ (t : Tariff) (r : ℕ) (ds : List ℕ) where
     unfolding cause_of
     cause-opens v o = rw (above, o)
 
-    pub cause-stretches : (u v n : ℕ) → opening_end r (start_at t C) ds ≡ refused n → stretch_end r C ds ≡ figures v → stretch_start r C ds v ≡ figures u
+    pub cause-stretches : (u v n : ℕ) → opening_end r (start_at t C) ds ≡ refused n → stretch_end r C ds ≡ figures v
+        → stretch_start r C ds v ≡ figures u
         → cause_of t r ds B ≡ stretch u v
     unfolding cause_of
     cause-stretches u v n o f g = rw (above, o, f, g)
 
     pub opening-is : (v : ℕ) → opening_end r (start_at t C) ds ≡ figures v → OpeningShort r (start_at t C) ds v
     opening-is v o =
-        let k : FirstFrom (λ w. short r (start_at t C) ds 1 w) (length ds) 1 v = subst (IsFirstFrom (λ w. short r (start_at t C) ds 1 w) (length ds) 1) o (from_is _ (length ds) 1) in
+        let k : FirstFrom (λ w. short r (start_at t C) ds 1 w) (length ds) 1 v =
+        subst (IsFirstFrom (λ w. short r (start_at t C) ds 1 w) (length ds) 1) o (from_is _ (length ds) 1) in
         record {
           some = k.from;
           inside = omega (arith, k.within);
@@ -149,11 +158,14 @@ module _ (t : Tariff) (r : ℕ) (ds : List ℕ) where
           least = λ w i l. met r ds (start_at t C) 1 w (k.smaller w i l);
         }
 
-    pub stretch-is : (u v n : ℕ) → opening_end r (start_at t C) ds ≡ refused n → stretch_end r C ds ≡ figures v → stretch_start r C ds v ≡ figures u → StretchShort r (start_at t C) C ds u v
+    pub stretch-is : (u v n : ℕ) → opening_end r (start_at t C) ds ≡ refused n → stretch_end r C ds ≡ figures v
+        → stretch_start r C ds v ≡ figures u → StretchShort r (start_at t C) C ds u v
     stretch-is u v n o f g =
         let none = subst (IsFirstFrom (λ w. short r (start_at t C) ds 1 w) (length ds) 1) o (from_is _ (length ds) 1) in
-        let last : FirstFrom (λ w. is_found (stretch_start r C ds w)) (length ds - 1) 2 v = subst (IsFirstFrom (λ w. is_found (stretch_start r C ds w)) (length ds - 1) 2) f (from_is _ (length ds - 1) 2) in
-        let first : FirstFrom (λ w. short r C ds w v) (v - 1) 2 u = subst (IsFirstFrom (λ w. short r C ds w v) (v - 1) 2) g (from_is _ (v - 1) 2) in
+        let last : FirstFrom (λ w. is_found (stretch_start r C ds w)) (length ds - 1) 2 v =
+        subst (IsFirstFrom (λ w. is_found (stretch_start r C ds w)) (length ds - 1) 2) f (from_is _ (length ds - 1) 2) in
+        let first : FirstFrom (λ w. short r C ds w v) (v - 1) 2 u =
+        subst (IsFirstFrom (λ w. short r C ds w v) (v - 1) 2) g (from_is _ (v - 1) 2) in
         record {
           openings = none_opens r ds (start_at t C) none.1;
           late = first.from;

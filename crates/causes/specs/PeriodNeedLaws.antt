@@ -48,7 +48,8 @@ front_need r (suc n) [] = omega arith
 front_need r (suc n) (d ∷ ds) = omega (arith, front_need r n ds, mul-suc r (length (take n ds)))
 
 pub all_needed : (r : ℕ) (ds : List ℕ) → need_of r ds ≤ need_before r ds
-all_needed r ds = subst (λ (es : List ℕ). need_of r es ≤ need_before r ds) (take-length ds) (front_need r (length ds) ds)
+all_needed r ds =
+    subst (λ (es : List ℕ). need_of r es ≤ need_before r ds) (take-length ds) (front_need r (length ds) ds)
 
 -- Some of them, all within the trace.
 record FrontNeeds (r : ℕ) (ds : List ℕ) (b : ℕ) : Type 0 where
@@ -61,7 +62,8 @@ unfolding need_before total
 front_one r [] = record { count = 0; inside = omega arith; enough = none_needed r }
 front_one r (d ∷ ds) = go (front_one r ds) (leb (d + need_before r ds) r) refl
   where
-    go : FrontNeeds r ds (need_before r ds) → (b : Bool) → leb (d + need_before r ds) r ≡ b → FrontNeeds r (d ∷ ds) (d + need_before r ds - r)
+    go : FrontNeeds r ds (need_before r ds) → (b : Bool) → leb (d + need_before r ds) r ≡ b
+        → FrontNeeds r (d ∷ ds) (d + need_before r ds - r)
     go k true h = record { count = 0; inside = omega arith; enough = omega (arith, none_needed r, leb-true (d + need_before r ds) r h) }
     go k false h =
         record {
@@ -71,7 +73,8 @@ front_one r (d ∷ ds) = go (front_one r ds) (leb (d + need_before r ds) r) refl
         }
 
 -- So tokens that meet the need of every number of first periods meet what is needed before the trace.
-pub fronts_met : (r y : ℕ) (ds : List ℕ) → ((n : ℕ) → 1 ≤ n → n ≤ length ds → need_of r (take n ds) ≤ y) → need_before r ds ≤ y
+pub fronts_met : (r y : ℕ) (ds : List ℕ) → ((n : ℕ) → 1 ≤ n → n ≤ length ds → need_of r (take n ds) ≤ y)
+    → need_before r ds ≤ y
 fronts_met r y ds met = go (front_one r ds).count (front_one r ds).inside (needs_of r _ _ (front_one r ds).enough)
   where
     go : (n : ℕ) → n ≤ length ds → need_before r ds ≤ need_of r (take n ds) → need_before r ds ≤ y
@@ -98,7 +101,8 @@ module _ (r : ℕ) where
     inside : before ≤ length es
     enough : Needs r b (drop before es)
 
-  back_one : (w : Walk) (es : List ℕ) → let b = (foldl (pushed r) w es).ending in (b + r * length es ≤ w.ending + demand_of es) ⊎ BackNeeds es b
+  back_one : (w : Walk) (es : List ℕ) → let b =
+      (foldl (pushed r) w es).ending in (b + r * length es ≤ w.ending + demand_of es) ⊎ BackNeeds es b
   unfolding total pushed
   back_one w [] = inl (omega (arith, mul-zero r))
   back_one w (d ∷ es) = go (back_one (pushed r w d) es) (leb r (w.ending + d)) refl
@@ -106,15 +110,18 @@ module _ (r : ℕ) where
       b : ℕ
       b = (foldl (pushed r) (pushed r w d) es).ending
 
-      go : (b + r * length es ≤ w.ending + d - r + demand_of es) ⊎ BackNeeds es b → (t : Bool) → leb r (w.ending + d) ≡ t
+      go : (b + r * length es ≤ w.ending + d - r + demand_of es) ⊎ BackNeeds es b → (t : Bool)
+          → leb r (w.ending + d) ≡ t
           → (b + r * length (d ∷ es) ≤ w.ending + demand_of (d ∷ es)) ⊎ BackNeeds (d ∷ es) b
       go (inl h) true e = inl (omega (arith, mul-suc r (length es), leb-true r (w.ending + d) e))
-      go (inl h) false e = inr (record { before = 1; inside = omega arith; enough = omega (arith, leb-false r (w.ending + d) e) })
+      go (inl h) false e =
+          inr (record { before = 1; inside = omega arith; enough = omega (arith, leb-false r (w.ending + d) e) })
       go (inr k) t e = inr (record { before = suc k.before; inside = omega (arith, k.inside); enough = k.enough })
 
   ending_one : (es : List ℕ) → BackNeeds es (walk_of r es).ending
   unfolding walk_of
-  ending_one es = ⊎_elim (λ h. record { before = 0; inside = omega arith; enough = omega (arith, h) }) (λ k. k) (back_one started es)
+  ending_one es =
+      ⊎_elim (λ h. record { before = 0; inside = omega arith; enough = omega (arith, h) }) (λ k. k) (back_one started es)
 
 -- So a stretch up to period v, from period 2 or later, is short exactly where the walk of those periods ends with more
 -- than the depth.
@@ -128,7 +135,8 @@ module _ (r C : ℕ) (ds : List ℕ) (v : ℕ) (l : v ≤ length ds) where
   short-ends : (u : ℕ) → 2 ≤ u → short r C ds u v ≡ true → C < ending
   unfolding walk_of
   short-ends u h e =
-      let k = subst (λ (es : List ℕ). need_of r es ≤ ending) (later (u - 2) u (omega arith)) (back_need r started (u - 2) (slice 1 v ds)) in
+      let k =
+      subst (λ (es : List ℕ). need_of r es ≤ ending) (later (u - 2) u (omega arith)) (back_need r started (u - 2) (slice 1 v ds)) in
       omega (arith, k, ltb-true C (need_of r (from_to u v ds)) e)
 
   none_ends : NoneFrom (λ u. short r C ds u v) (v - 1) 2 → ending ≤ C

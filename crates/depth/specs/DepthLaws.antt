@@ -94,7 +94,8 @@ module _ (p q cap r : ℕ) (ds : List ℕ) (hp : p ≤ q) (hq : 1 ≤ q) where
   unfolding depth_from
   walk_is w f = go (cap_meets p q cap w) refl
     where
-      go : (t : Bool) → cap_meets p q cap w ≡ t → IsDepth p q cap r ds (cond t (figures (max w.stretch (ceiling (w.opening * q) p))) (refused 7))
+      go : (t : Bool) → cap_meets p q cap w ≡ t
+          → IsDepth p q cap r ds (cond t (figures (max w.stretch (ceiling (w.opening * q) p))) (refused 7))
       go true h =
           let k = and_both (leb w.stretch cap) (leb (w.opening * q) (p * cap)) h in
           walk_first w f (leb-true _ _ k.0) (holds_start p q w.opening cap hq (leb-true _ _ k.1))
@@ -113,7 +114,8 @@ pub walk-within : (p q cap : ℕ) (w : Walk) {B : ℕ} → 1 ≤ q → depth_fro
 unfolding depth_from
 walk-within p q cap w {B} hq e = go (cap_meets p q cap w) refl e
   where
-    go : (t : Bool) → cap_meets p q cap w ≡ t → cond t (figures (max w.stretch (ceiling (w.opening * q) p))) (refused 7) ≡ figures B → B ≤ cap
+    go : (t : Bool) → cap_meets p q cap w ≡ t
+        → cond t (figures (max w.stretch (ceiling (w.opening * q) p))) (refused 7) ≡ figures B → B ≤ cap
     go true h e =
         let k = and_both (leb w.stretch cap) (leb (w.opening * q) (p * cap)) h in
         subst (λ (C : ℕ). C ≤ cap) (same-figures e)
@@ -121,8 +123,10 @@ walk-within p q cap w {B} hq e = go (cap_meets p q cap w) refl e
     go false h e = absurd (figures-refused (sym e))
 
 -- Of a trace with one more period at its end, one push more gives it.
-pub depth-more : (p q cap r : ℕ) (ds : List ℕ) (d : ℕ) → p ≤ q → 1 ≤ q → depth_from p q cap (pushed r (walk_of r ds) d) ≡ least_depth p q cap r (ds ++ (d ∷ []))
-depth-more p q cap r ds d hp hq = ap (depth_from p q cap) (sym (walk_more r ds d)) ∙ depth-walk p q cap r (ds ++ (d ∷ [])) hp hq
+pub depth-more : (p q cap r : ℕ) (ds : List ℕ) (d : ℕ) → p ≤ q → 1 ≤ q
+    → depth_from p q cap (pushed r (walk_of r ds) d) ≡ least_depth p q cap r (ds ++ (d ∷ []))
+depth-more p q cap r ds d hp hq =
+    ap (depth_from p q cap) (sym (walk_more r ds d)) ∙ depth-walk p q cap r (ds ++ (d ∷ [])) hp hq
 
 -- ---- The call
 

@@ -60,7 +60,8 @@ module _ (t : Tariff) (r : ℕ) (ds : List ℕ) {B : ℕ} (e : depth_of t r ds �
   depth_meets = carried_meets r B _ ds (depth-found t r ds e).passes
 
   pub depth_meets_least : (C : ℕ) → Meets r C (start_of t.factor.p t.factor.q C) ds → B ≤ C
-  depth_meets_least C k = first_le (λ D. carries t.factor.p t.factor.q r D ds) _ B C (depth-found t r ds e) (meets_carried r C _ ds k)
+  depth_meets_least C k =
+      first_le (λ D. carries t.factor.p t.factor.q r D ds) _ B C (depth-found t r ds e) (meets_carried r C _ ds k)
 
 -- ---- A walk works them out
 
@@ -71,23 +72,27 @@ opening_need r [] = refl
 opening_need r (d ∷ ds) = ap (λ (w : Walk). w.opening) (walk-preceded r d ds) ∙ omega (arith, opening_need r ds)
 
 -- The walk's stretch is the greatest of the needs: none is above it, and one is equal to it.
-stretch_next : (r d : ℕ) (ds : List ℕ) → (walk_of r (d ∷ ds)).stretch ≡ max (walk_of r ds).stretch (need_before r (d ∷ ds))
+stretch_next : (r d : ℕ) (ds : List ℕ)
+    → (walk_of r (d ∷ ds)).stretch ≡ max (walk_of r ds).stretch (need_before r (d ∷ ds))
 unfolding need_before pushed
-stretch_next r d ds = ap (λ (w : Walk). w.stretch) (walk-preceded r d ds) ∙ rw (opening_need r ds, add_comm (need_before r ds) d)
+stretch_next r d ds =
+    ap (λ (w : Walk). w.stretch) (walk-preceded r d ds) ∙ rw (opening_need r ds, add_comm (need_before r ds) d)
 
 pub stretch_need : (r : ℕ) (ds : List ℕ) (n : ℕ) → need_before r (drop n ds) ≤ (walk_of r ds).stretch
 unfolding need_before
 stretch_need r [] zero = omega arith
 stretch_need r [] (suc n) = omega arith
 stretch_need r (d ∷ ds) zero = rw (stretch_next r d ds) (le-max_right (walk_of r ds).stretch _)
-stretch_need r (d ∷ ds) (suc n) = rw (stretch_next r d ds) (le_trans (stretch_need r ds n) (le-max_left (walk_of r ds).stretch _))
+stretch_need r (d ∷ ds) (suc n) =
+    rw (stretch_next r d ds) (le_trans (stretch_need r ds n) (le-max_left (walk_of r ds).stretch _))
 
 pub stretch_one : (r : ℕ) (ds : List ℕ) → (n : ℕ) × ((walk_of r ds).stretch ≡ need_before r (drop n ds))
 unfolding need_before walk_of
 stretch_one r [] = (0, refl)
 stretch_one r (d ∷ ds) = go (stretch_one r ds) (leb (walk_of r ds).stretch (need_before r (d ∷ ds))) refl
   where
-    go : (n : ℕ) × ((walk_of r ds).stretch ≡ need_before r (drop n ds)) → (b : Bool) → leb (walk_of r ds).stretch (need_before r (d ∷ ds)) ≡ b
+    go : (n : ℕ) × ((walk_of r ds).stretch ≡ need_before r (drop n ds)) → (b : Bool)
+        → leb (walk_of r ds).stretch (need_before r (d ∷ ds)) ≡ b
         → (n : ℕ) × ((walk_of r (d ∷ ds)).stretch ≡ need_before r (drop n (d ∷ ds)))
     go k true h = (0, stretch_next r d ds ∙ max-eq_right (leb-true _ _ h))
     go k false h = (suc k.0, stretch_next r d ds ∙ max-eq_left (omega (arith, leb-false)) ∙ k.1)

@@ -52,7 +52,8 @@ unfolding first_from
 from_is test zero b = (refl, λ c l m. absurd (omega arith))
 from_is test (suc n) b = go (test b) refl (first_from test n (suc b)) (from_is test n (suc b))
   where
-    go : (t : Bool) → test b ≡ t → (x : Answer ℕ) → IsFirstFrom test n (suc b) x → IsFirstFrom test (suc n) b (cond t (figures b) x)
+    go : (t : Bool) → test b ≡ t → (x : Answer ℕ) → IsFirstFrom test n (suc b) x
+        → IsFirstFrom test (suc n) b (cond t (figures b) x)
     go true h x k = record { from = omega arith; within = omega arith; passes = h; smaller = λ c l m. absurd (omega arith) }
     go false h (figures x) k =
         record { from = omega (arith, k.from); within = omega (arith, k.within); passes = k.passes; smaller = fails_from test b x h k.smaller }
@@ -89,7 +90,8 @@ module _ (test : ℕ → Bool) (cap : ℕ) where
   pub first_some : (c : ℕ) → c ≤ cap → test c ≡ true → (b : ℕ) × (first_from test (suc cap) 0 ≡ figures b)
   first_some c l h = go (first_from test (suc cap) 0) refl first_is
     where
-      go : (x : Answer ℕ) → first_from test (suc cap) 0 ≡ x → IsFirst test cap x → (b : ℕ) × (first_from test (suc cap) 0 ≡ figures b)
+      go : (x : Answer ℕ) → first_from test (suc cap) 0 ≡ x → IsFirst test cap x
+          → (b : ℕ) × (first_from test (suc cap) 0 ≡ figures b)
       go (figures b) e k = (b, e)
       go (refused n) e k = absurd (true-false h (k.1 c l))
 

@@ -35,9 +35,11 @@ push_preceded r w d e =
     let n = need_both w.ending w.sum w.gained r e d in
     walk_same (sym swap) refl (sym o) n (rw (n, o, swap) (greatest_of w.stretch (w.opening + d - r) (w.ending + e - r) _))
 
-fold-preceded : (r : ℕ) (w : Walk) (d : ℕ) (ds : List ℕ) → foldl (pushed r) (preceded r w d) ds ≡ preceded r (foldl (pushed r) w ds) d
+fold-preceded : (r : ℕ) (w : Walk) (d : ℕ) (ds : List ℕ)
+    → foldl (pushed r) (preceded r w d) ds ≡ preceded r (foldl (pushed r) w ds) d
 fold-preceded r w d [] = refl
-fold-preceded r w d (e ∷ ds) = ap (λ (v : Walk). foldl (pushed r) v ds) (push_preceded r w d e) ∙ fold-preceded r (pushed r w e) d ds
+fold-preceded r w d (e ∷ ds) =
+    ap (λ (v : Walk). foldl (pushed r) v ds) (push_preceded r w d e) ∙ fold-preceded r (pushed r w e) d ds
 
 -- The walk of a trace with one more period before it.
 pub walk-preceded : (r d : ℕ) (ds : List ℕ) → walk_of r (d ∷ ds) ≡ preceded r (walk_of r ds) d

@@ -30,7 +30,8 @@ pub record Holds (B y : ℕ) (w : Walk) (h : ℕ) : Type 0 where
   pub tokens : h ≡ min came room
 
 -- The tokens after one more period.
-more-held : (a b B e r d : ℕ) → b + e ≡ B → d ≤ min a b + r → min B (min a b + r - d) ≡ min (a + r - d) (B - (e + d - r))
+more-held : (a b B e r d : ℕ) → b + e ≡ B → d ≤ min a b + r
+    → min B (min a b + r - d) ≡ min (a + r - d) (B - (e + d - r))
 more-held a b B e r d h l = le_antisymm (le-min (omega arith) (omega arith)) (le-min (omega arith) (omega arith))
 
 fits : (r h d : ℕ) → over r h d ≡ 0 → d ≤ h + r
@@ -83,7 +84,8 @@ walk_grows r B y w (d ∷ ds) n = push_grows r B y w d (walk_grows r B y (pushed
 
 -- From any walk on: what is carried is enough, what is enough is carried, and the tokens after it.
 module _ (r : ℕ) {B y : ℕ} where
-  on_enough : {w : Walk} {h : ℕ} (ds : List ℕ) → Holds B y w h → Enough B y w → carries_from r B h ds ≡ true → Enough B y (foldl (pushed r) w ds)
+  on_enough : {w : Walk} {h : ℕ} (ds : List ℕ) → Holds B y w h → Enough B y w → carries_from r B h ds ≡ true
+      → Enough B y (foldl (pushed r) w ds)
   unfolding carries_from
   on_enough [] k n e = n
   on_enough {w} {h} (d ∷ ds) k n e =
@@ -91,14 +93,16 @@ module _ (r : ℕ) {B y : ℕ} where
       let z = eqb-true _ _ c.0 in
       on_enough {w = pushed r w d} {h = held r B h d} ds (push_holds r d k z) (push_enough r d k n z) c.1
 
-  on_carried : {w : Walk} {h : ℕ} (ds : List ℕ) → Holds B y w h → Enough B y (foldl (pushed r) w ds) → carries_from r B h ds ≡ true
+  on_carried : {w : Walk} {h : ℕ} (ds : List ℕ) → Holds B y w h → Enough B y (foldl (pushed r) w ds)
+      → carries_from r B h ds ≡ true
   unfolding carries_from
   on_carried [] k n = refl
   on_carried {w} {h} (d ∷ ds) k n =
       let z = enough_push r d k (walk_grows r B y (pushed r w d) ds n) in
       both_and (eq-eqb _ _ z) (on_carried {w = pushed r w d} {h = held r B h d} ds (push_holds r d k z) n)
 
-  on_holds : {w : Walk} {h : ℕ} (ds : List ℕ) → Holds B y w h → carries_from r B h ds ≡ true → Holds B y (foldl (pushed r) w ds) (held_after r B h ds)
+  on_holds : {w : Walk} {h : ℕ} (ds : List ℕ) → Holds B y w h → carries_from r B h ds ≡ true
+      → Holds B y (foldl (pushed r) w ds) (held_after r B h ds)
   unfolding carries_from held_after
   on_holds [] k e = k
   on_holds {w} {h} (d ∷ ds) k e =
@@ -147,5 +151,6 @@ module _ (r : ℕ) {B y : ℕ} (h : y ≤ B) (ds : List ℕ) (d : ℕ) where
   enough-carried-more n = enough-carried r h (ds ++ (d ∷ [])) (subst (Enough B y) (sym (walk_more r ds d)) n)
 
 -- The walk of the first i + 1 periods.
-pub walk_next : (r : ℕ) (ds : List ℕ) (i : ℕ) → i < length ds → walk_of r (take (i + 1) ds) ≡ pushed r (walk_of r (take i ds)) (get_or ds i 0)
+pub walk_next : (r : ℕ) (ds : List ℕ) (i : ℕ) → i < length ds
+    → walk_of r (take (i + 1) ds) ≡ pushed r (walk_of r (take i ds)) (get_or ds i 0)
 walk_next r ds i l = ap (walk_of r) (rw (add-one i) (take-suc ds i 0 l)) ∙ walk_more r (take i ds) (get_or ds i 0)

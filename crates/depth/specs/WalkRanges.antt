@@ -21,7 +21,8 @@ pub record WalkRange (n : ℕ) (w : Walk) : Type 0 where
 pub range_started : WalkRange 0 started
 range_started = omega arith
 
-pub range_pushed : (r d : ℕ) {n : ℕ} {w : Walk} → WalkRange n w → r ≤ rate_limit → d ≤ demand_limit → WalkRange (n + 1) (pushed r w d)
+pub range_pushed : (r d : ℕ) {n : ℕ} {w : Walk} → WalkRange n w → r ≤ rate_limit → d ≤ demand_limit
+    → WalkRange (n + 1) (pushed r w d)
 unfolding pushed
 range_pushed r d k hr hd =
     record {
@@ -35,7 +36,8 @@ range_pushed r d k hr hd =
 pub range_more : {m n : ℕ} {w : Walk} → m ≤ n → WalkRange m w → WalkRange n w
 range_more h k = omega (arith, k.sums, k.gains, k.openings, k.endings, k.stretches)
 
-range_on : (r : ℕ) {n : ℕ} {w : Walk} (ds : List ℕ) → r ≤ rate_limit → Demands ds → WalkRange n w → WalkRange (n + length ds) (foldl (pushed r) w ds)
+range_on : (r : ℕ) {n : ℕ} {w : Walk} (ds : List ℕ) → r ≤ rate_limit → Demands ds → WalkRange n w
+    → WalkRange (n + length ds) (foldl (pushed r) w ds)
 range_on r [] hr h k = range_more (omega arith) k
 range_on r {n = n} {w = w} (d ∷ ds) hr h k = range_more (omega arith) (range_on r {n = n + 1} {w = pushed r w d} ds hr (demands-tail h) (range_pushed r d k hr (h.each 0)))
 
@@ -44,5 +46,7 @@ unfolding walk_of
 walk_range r ds hr h = range_more (omega arith) (range_on r ds hr h range_started)
 
 -- … and of the first n periods of a trace.
-pub walk_range_take : (r n : ℕ) (ds : List ℕ) → r ≤ rate_limit → Demands ds → n ≤ length ds → WalkRange n (walk_of r (take n ds))
-walk_range_take r n ds hr h l = range_more (omega (arith, length-take-le n ds l)) (walk_range r (take n ds) hr (demands-take n ds h))
+pub walk_range_take : (r n : ℕ) (ds : List ℕ) → r ≤ rate_limit → Demands ds → n ≤ length ds
+    → WalkRange n (walk_of r (take n ds))
+walk_range_take r n ds hr h l =
+    range_more (omega (arith, length-take-le n ds l)) (walk_range r (take n ds) hr (demands-take n ds h))

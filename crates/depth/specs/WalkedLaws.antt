@@ -41,7 +41,8 @@ pub depth_by_walk : (t : Tariff) (r : ℕ) (ds : List ℕ) → and_then (walk_fo
 unfolding walk_for depth_of
 depth_by_walk t r ds = go (periods_ok (length ds)) (rate_ok t r) refl
   where
-    go : (n k : Bool) → rate_ok t r ≡ k → and_then (weigh n 3 (weigh k 5 (figures (walk_of r ds)))) (read_off t) ≡ weigh n 3 (weigh k 5 (tariff_depth t r ds))
+    go : (n k : Bool) → rate_ok t r ≡ k
+        → and_then (weigh n 3 (weigh k 5 (figures (walk_of r ds)))) (read_off t) ≡ weigh n 3 (weigh k 5 (tariff_depth t r ds))
     go false k e = refl
     go true false e = refl
     go true true e = let f = (rate_range t r e).tariff.factor in depth-walk t.factor.p t.factor.q t.depth_cap.0 r ds f.part f.some
@@ -51,14 +52,18 @@ walk_for-turned : (t : Tariff) (r : ℕ) (ds : List ℕ) → walk_for t r (rever
 unfolding walk_for
 walk_for-turned t r ds = rw (length-reverse ds, walk-turned r ds) (go (periods_ok (length ds)) (rate_ok t r))
   where
-    go : (n k : Bool) → weigh n 3 (weigh k 5 (figures (turned (walk_of r ds)))) ≡ on_figures turned (weigh n 3 (weigh k 5 (figures (walk_of r ds))))
+    go : (n k : Bool)
+        → weigh n 3 (weigh k 5 (figures (turned (walk_of r ds)))) ≡ on_figures turned (weigh n 3 (weigh k 5 (figures (walk_of r ds))))
     go false k = refl
     go true false = refl
     go true true = refl
 
 -- The answer in archive order, on any list.
-pub from_end_by_walk : (t : Tariff) (r : ℕ) (ds : List ℕ) → and_then (walk_for t r ds) (λ w. read_off t (turned w)) ≡ depth_from_end t r ds
-from_end_by_walk t r ds = go (walk_for t r ds) ∙ ap (λ (a : Answer Walk). and_then a (read_off t)) (sym (walk_for-turned t r ds)) ∙ depth_by_walk t r (reverse ds)
+pub from_end_by_walk : (t : Tariff) (r : ℕ) (ds : List ℕ)
+    → and_then (walk_for t r ds) (λ w. read_off t (turned w)) ≡ depth_from_end t r ds
+from_end_by_walk t r ds =
+    go (walk_for t r ds) ∙ ap (λ (a : Answer Walk). and_then a (read_off t)) (sym (walk_for-turned t r ds))
+    ∙ depth_by_walk t r (reverse ds)
   where
     go : (a : Answer Walk) → and_then a (λ w. read_off t (turned w)) ≡ and_then (on_figures turned a) (read_off t)
     go (figures w) = refl
@@ -77,5 +82,6 @@ walk_ready t r ds h e =
     let f = rate_range t r k.0 in
     record {
       tariff = f.tariff;
-      walk = subst (WalkRange trace_limit) (same-figures k.1) (range_more (periods_range _ n.0).few (walk_range r ds f.rates h));
+      walk =
+          subst (WalkRange trace_limit) (same-figures k.1) (range_more (periods_range _ n.0).few (walk_range r ds f.rates h));
     }

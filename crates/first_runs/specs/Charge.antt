@@ -47,7 +47,8 @@ pub record StopsAt (known rest periods stop : ℕ) : Type 0 where
 pub record Stops (t : Tariff) (known : ℕ) (costs stops : List ℕ) : Type 0 where
   pub room : length costs ≤ length stops
   pub below : (i : ℕ) → i < length costs → get_or stops i 0 < no_charge
-  pub beyond : (i j charge : ℕ) → i ≤ j → j < length costs → get_or stops i 0 ≤ charge → known < cost_at t (j + 1) charge + get_or costs j 0
+  pub beyond : (i j charge : ℕ) → i ≤ j → j < length costs → get_or stops i 0 ≤ charge
+      → known < cost_at t (j + 1) charge + get_or costs j 0
 
 -- Charges at which no walk stops, for the longest trace.
 pub record Far (far : List ℕ) : Type 0 where

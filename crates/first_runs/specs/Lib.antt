@@ -5,3 +5,4 @@ pub mod OutlineLaws
 pub mod ChargeLaws
 pub mod SearchLaws
 pub mod WeighLaws
+pub mod Search

@@ -2,11 +2,10 @@
 -- what is found, is not chosen before what is found.
 -- Assumes nothing.
 use Rattle.std.specs.Prelude.{ℕ, ◌+◌, ◌≤◌, ◌<◌, ◌≡◌, Bool, true, false, cond, List, ◌⊎◌, leb, length, take, get_or}
-use Rattle.std.proofs.Common.{arith, le_refl, le_trans, le_of_eq, le_antisymm, add-le-add, sym, ap, ◌∙◌, inl, inr, ⊎_elim, leb-true, leb-false}
+use Rattle.std.proofs.Common.{arith, le_refl, le_trans, le_of_eq, add-le-add, sym, ap, inr, ⊎_elim, leb-true, leb-false}
 use Rattle.std.proofs.Math.Nat.{mul-le-mul_right}
 use Rattle.std.proofs.Math.Path.{refl, subst}
 use Rattle.std.proofs.Math.Seq.{take-length}
-use Rattle.terms.specs.declared.Rate.{Rate}
 use Rattle.terms.specs.declared.Tariff.{Tariff}
 use Rattle.terms.specs.Answer.{figures}
 use Rattle.terms.specs.Bools.{true-false}
@@ -22,8 +21,8 @@ use Rattle.single.specs.Rates.{greatest, weighed}
 use Rattle.single.specs.Single.{Serves, bucket_of}
 use Rattle.first_runs.specs.declared.outlines.Choice.{Choice}
 use Rattle.first_runs.specs.declared.outlines.Outline.{Outline}
-use Rattle.first_runs.specs.Charge.{charge_at, CostRange, Stops, Far}
-use Rattle.first_runs.specs.ChargeLaws.{front-carried, charge_least, stops_lower, stops_far}
+use Rattle.first_runs.specs.Charge.{charge_at, Stops}
+use Rattle.first_runs.specs.ChargeLaws.{front-carried, charge_least, stops_lower}
 use Rattle.first_runs.specs.Outline.{unpriced, no_outline, begun, ahead, better_choice}
 use Rattle.first_runs.specs.OutlineLaws.{not_ahead-trans, ahead-asym, ahead_self, not_ahead-cost, dearer_not_ahead, alike_not_ahead, more_not_ahead}
 
@@ -58,10 +57,12 @@ module _ (t : Tariff) (ds costs counts : List ℕ) where
 
   -- ---- One run
 
-  passed_dear : (o : Outline) (r i charge : ℕ) → ((B : ℕ) → Serves t (take (i + 1) ds) (bucket_of r B) → charge ≤ charge_of t (bucket_of r B))
+  passed_dear : (o : Outline) (r i charge : ℕ)
+      → ((B : ℕ) → Serves t (take (i + 1) ds) (bucket_of r B) → charge ≤ charge_of t (bucket_of r B))
       → o.cost < cost_at t (i + 1) charge + get_or costs i 0 → Passed o r i
   unfolding cost_of
-  passed_dear o r i charge least l B s = dearer_not_ahead o (starts_with i r B) (omega (arith, l, mul-le-mul_right (i + 1) (least B s)))
+  passed_dear o r i charge least l B s =
+      dearer_not_ahead o (starts_with i r B) (omega (arith, l, mul-le-mul_right (i + 1) (least B s)))
 
   module _ (low high r charge i : ℕ) (l : low ≤ r) (m : r ≤ high) (e : charge ≡ charge_at t low (tariff_depth t high (take (i + 1) ds))) where
     least-from : (j B : ℕ) → i ≤ j → Serves t (take (j + 1) ds) (bucket_of r B) → charge ≤ charge_of t (bucket_of r B)
@@ -71,7 +72,8 @@ module _ (t : Tariff) (ds costs counts : List ℕ) where
     pub end_passed : (o : Outline) → o.cost < cost_at t (i + 1) charge + get_or costs i 0 → Passed o r i
     end_passed o k = passed_dear o r i charge (λ B s. least-from i B (le_refl i) s) k
 
-    pub stop_passed : (o : Outline) (stops : List ℕ) → Stops t o.cost costs stops → get_or stops i 0 ≤ charge → (j : ℕ) → i ≤ j → j < length costs → Passed o r j
+    pub stop_passed : (o : Outline) (stops : List ℕ) → Stops t o.cost costs stops → get_or stops i 0 ≤ charge
+        → (j : ℕ) → i ≤ j → j < length costs → Passed o r j
     stop_passed o stops k n j x y = passed_dear o r j charge (λ B s. least-from j B x s) (k.beyond i j charge x y n)
 
   -- What is kept once the run of i + 1 periods is weighed at rate r.
@@ -90,21 +92,24 @@ module _ (t : Tariff) (ds costs counts : List ℕ) where
     this_serves = record { rates = slow; depths = depth-within _ _ _ _ _ e; carried = depth-carries _ _ _ _ _ e }
 
     this_passed : Passed this r i
-    this_passed C s = alike_not_ahead this (starts_with i r C) (add-le-add (cost_mono t (i + 1) (bucket_of r B) (bucket_of r C) (le_refl r) (depth-least _ _ _ _ _ e C s.carried)) (le_refl _)) refl refl
+    this_passed C s =
+        alike_not_ahead this (starts_with i r C) (add-le-add (cost_mono t (i + 1) (bucket_of r B) (bucket_of r C) (le_refl r) (depth-least _ _ _ _ _ e C s.carried)) (le_refl _)) refl refl
 
     -- It is kept only where it has a cost.
     this_below : (o : Outline) → Kind o → ahead this o ≡ true → this.cost < unpriced
     this_below o k h = go (leb unpriced this.cost) refl
       where
         not : unpriced ≤ this.cost → ahead this o ≡ false
-        not l = ⊎_elim (λ f. subst (λ (x : Outline). ahead this x ≡ false) (sym f) (more_not_ahead no_outline this l (omega arith)))
+        not l =
+            ⊎_elim (λ f. subst (λ (x : Outline). ahead this x ≡ false) (sym f) (more_not_ahead no_outline this l (omega arith)))
             (λ s. dearer_not_ahead o this (omega (arith, s.below))) k
 
         go : (b : Bool) → leb unpriced this.cost ≡ b → this.cost < unpriced
         go true f = absurd (true-false h (not (leb-true _ _ f)))
         go false f = leb-false _ _ f
 
-    pub run-kept : (old run : Choice) → Kind old.outline → old.rate.0 ≤ t.rate_cap.0 → run.outline ≡ this → run.rate.0 ≡ r → RunWeighed r i old (better_choice old run)
+    pub run-kept : (old run : Choice) → Kind old.outline → old.rate.0 ≤ t.rate_cap.0 → run.outline ≡ this
+        → run.rate.0 ≡ r → RunWeighed r i old (better_choice old run)
     unfolding better_choice
     run-kept old run k n f g = go (ahead run.outline old.outline) refl
       where
@@ -157,7 +162,8 @@ module _ (t : Tariff) (ds costs counts : List ℕ) where
   abbrev pub PassedOver : ℕ → ℕ → Choice → Bool → Type 0
   PassedOver low high c b = b ≡ false → (r i : ℕ) → low ≤ r → r ≤ high → i < length ds → Passed c.outline r i
 
-  pub searching_on : {stops : List ℕ} {low end : ℕ} {old new : Choice} → Searching stops old → Weighed low end old new → Searching stops new
+  pub searching_on : {stops : List ℕ} {low end : ℕ} {old new : Choice} → Searching stops old → Weighed low end old new
+      → Searching stops new
   searching_on k w =
       record {
         rests = k.rests;
@@ -166,20 +172,15 @@ module _ (t : Tariff) (ds costs counts : List ℕ) where
         rate = w.rate;
       }
 
-  -- The search begins with no cutting, and at no charge does it stop.
-  pub none_searching : {far : List ℕ} → Far far → Rests → (begin : Rate) → begin.0 ≤ t.rate_cap.0 → Searching far (record { outline = no_outline; rate = begin })
-  none_searching {far} f k begin slow = record { rests = k; stopped = stops_far t costs far (omega (arith, k.costs_all, k.few)) f; kind = inl refl; rate = slow }
-
-  pub rests-costs : Rests → CostRange costs
-  rests-costs k = record { few = omega (arith, k.costs_all, k.few); each = λ i l. k.cost i (omega (arith, k.costs_all)) }
-
   pub weighed_none : {stops : List ℕ} {c : Choice} (low : ℕ) → Searching stops c → Weighed low low c c
   weighed_none low k = record { kind = k.kind; rate = k.rate; kept = ahead_self _; passed = λ r i l m n. absurd (omega arith) }
 
-  pub weighed-over : {stops : List ℕ} {c : Choice} (low high end : ℕ) → end ≤ high + 1 → Searching stops c → (b : Bool) → b ≡ false → PassedOver low high c b → Weighed low end c c
+  pub weighed-over : {stops : List ℕ} {c : Choice} (low high end : ℕ) → end ≤ high + 1 → Searching stops c
+      → (b : Bool) → b ≡ false → PassedOver low high c b → Weighed low end c c
   weighed-over low high end h k b e p = record { kind = k.kind; rate = k.rate; kept = ahead_self _; passed = λ r i l m n. p e r i l (omega arith) n }
 
-  pub weighed_then : {low mid end : ℕ} {a b c : Choice} → Weighed low mid a b → Weighed mid end b c → Weighed low end a c
+  pub weighed_then : {low mid end : ℕ} {a b c : Choice} → Weighed low mid a b → Weighed mid end b c
+      → Weighed low end a c
   weighed_then {low} {mid} {end} {a} {b} {c} k l =
       record {
         kind = l.kind;
@@ -197,11 +198,9 @@ module _ (t : Tariff) (ds costs counts : List ℕ) where
     pub inside : next ≤ end
     pub weighed : Weighed low next old new
 
-  pub turns_end : (low end last : ℕ) (old new : Choice) (next : ℕ) → end ≡ last → Turns low end old new next → end ≤ next → Weighed low last old new
-  turns_end low end last old new next e k l = subst (λ (n : ℕ). Weighed low n old new) (le_antisymm k.inside l ∙ e) k.weighed
-
   -- No rate above the greatest demand need be weighed: at that demand depth 0 carries.
-  weighed_all : {old new : Choice} → Weighed 0 (weighed t ds) old new → (r i : ℕ) → r ≤ t.rate_cap.0 → i < length ds → Passed new.outline r i
+  weighed_all : {old new : Choice} → Weighed 0 (weighed t ds) old new → (r i : ℕ) → r ≤ t.rate_cap.0 → i < length ds
+      → Passed new.outline r i
   weighed_all {old} {new} w r i l m = go (leb (weighed t ds) r) refl
     where
       go : (b : Bool) → leb (weighed t ds) r ≡ b → Passed new.outline r i
@@ -209,8 +208,10 @@ module _ (t : Tariff) (ds costs counts : List ℕ) where
       go true e = λ B s.
           let n : greatest ds < r = omega (arith, leb-true (weighed t ds) r e) in
           let y = start_of t.factor.p t.factor.q 0 in
-          let c = front-carried (greatest ds) 0 y (i + 1) (length ds) ds (omega arith) (rw (take-length ds) (greatest-carries (greatest ds) 0 y ds (le_refl _))) in
-          let zero-serves : Serves t (take (i + 1) ds) (bucket_of (greatest ds) 0) = record { rates = omega arith; depths = omega arith; carried = c } in
+          let c =
+          front-carried (greatest ds) 0 y (i + 1) (length ds) ds (omega arith) (rw (take-length ds) (greatest-carries (greatest ds) 0 y ds (le_refl _))) in
+          let zero-serves : Serves t (take (i + 1) ds) (bucket_of (greatest ds) 0) =
+          record { rates = omega arith; depths = omega arith; carried = c } in
           not_ahead-trans new.outline (starts_with i (greatest ds) 0) (starts_with i r B) (w.passed (greatest ds) i (omega arith) (omega arith) m 0 zero-serves)
           (alike_not_ahead _ _ (add-le-add (cost_mono t (i + 1) (bucket_of (greatest ds) 0) (bucket_of r B) (omega arith) (omega arith)) (le_refl _)) refl refl)
 

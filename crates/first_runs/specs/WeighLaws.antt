@@ -46,7 +46,8 @@ module _ (t : Tariff) (ds costs counts stops : List ℕ) (found : Choice) (k : S
 
     -- The depth that is found, where the walk does not stop.
     pub depth-found : n.charge < get_or stops i 0 → (B : ℕ) × (tariff_depth t high (take (i + 1) ds) ≡ figures B)
-    depth-found m = charge_found t low (tariff_depth t high (take (i + 1) ds)) (subst (λ (x : ℕ). x < no_charge) charge_is (goes_on m))
+    depth-found m =
+        charge_found t low (tariff_depth t high (take (i + 1) ds)) (subst (λ (x : ℕ). x < no_charge) charge_is (goes_on m))
 
     pub charge_limit : low ≤ t.rate_cap.0 → n.charge < get_or stops i 0 → n.charge ≤ period_limit
     charge_limit slow m =
@@ -63,7 +64,8 @@ module _ (t : Tariff) (ds costs counts stops : List ℕ) (found : Choice) (k : S
         stop_passed t ds costs counts low high r n.charge i a b charge_is o stops (stops_lower m k.stopped) x j y (omega (arith, k.rests.costs_all))
 
     -- Nor is a run that costs more at the walk's charge.
-    pub dear_passed : (o : Outline) → o.cost < cost_at t (i + 1) n.charge + get_or costs i 0 → (r : ℕ) → low ≤ r → r ≤ high → Passed t ds costs counts o r i
+    pub dear_passed : (o : Outline) → o.cost < cost_at t (i + 1) n.charge + get_or costs i 0 → (r : ℕ) → low ≤ r
+        → r ≤ high → Passed t ds costs counts o r i
     dear_passed o m r a b = end_passed t ds costs counts low high r n.charge i a b charge_is o m
 
   -- ---- Looking at some rates together
@@ -73,22 +75,22 @@ module _ (t : Tariff) (ds costs counts stops : List ℕ) (found : Choice) (k : S
     passing_start c w = record { walk = w; passed = λ r j a b l. absurd (omega arith) }
 
     module _ (i : ℕ) (c n : Charged) (p : Passing t ds costs counts found low high c i) (l : i < length ds) (s : Stepped t high low (get_or ds i 0) c n) where
-      pub passing_next : n.charge < get_or stops i 0 → found.outline.cost < cost_at t (i + 1) n.charge + get_or costs i 0 → Passing t ds costs counts found low high n (i + 1)
+      pub passing_next : n.charge < get_or stops i 0
+          → found.outline.cost < cost_at t (i + 1) n.charge + get_or costs i 0
+          → Passing t ds costs counts found low high n (i + 1)
       passing_next m x =
           record {
             walk = walk_on high low i c n p.walk l s m;
             passed = λ r j a b. below_more (λ j. Passed t ds costs counts found.outline r j) i (λ j y. p.passed r j a b y) (dear_passed high low i c n p.walk l s found.outline x r a b) j;
           }
 
-      pub passing_stop : get_or stops i 0 ≤ n.charge → (r j : ℕ) → low ≤ r → r ≤ high → j < length ds → Passed t ds costs counts found.outline r j
+      pub passing_stop : get_or stops i 0 ≤ n.charge → (r j : ℕ) → low ≤ r → r ≤ high → j < length ds
+          → Passed t ds costs counts found.outline r j
       passing_stop m r j a b z = go (leb i j) refl
         where
           go : (x : Bool) → leb i j ≡ x → Passed t ds costs counts found.outline r j
           go true e = stopped-passed high low i c n p.walk l s found.outline (le_refl _) m r j a b (leb-true _ _ e) z
           go false e = p.passed r j a b (leb-false _ _ e)
-
-    pub passing_end : (i : ℕ) (c : Charged) → Passing t ds costs counts found low high c i → length ds ≤ i → (r j : ℕ) → low ≤ r → r ≤ high → j < length ds → Passed t ds costs counts found.outline r j
-    passing_end i c p l r j a b z = p.passed r j a b (omega arith)
 
   -- ---- Weighing one rate
 
@@ -97,7 +99,8 @@ module _ (t : Tariff) (ds costs counts stops : List ℕ) (found : Choice) (k : S
     weighing_start c w = record { walk = w; kind = k.kind; rate = k.rate; kept = ahead_self found.outline; passed = λ j l. absurd (omega arith) }
 
     -- What is passed at this rate is at all from it to below the next.
-    all_weighed : (best : Choice) → Kind t ds costs counts best.outline → best.rate.0 ≤ t.rate_cap.0 → ahead found.outline best.outline ≡ false
+    all_weighed : (best : Choice) → Kind t ds costs counts best.outline → best.rate.0 ≤ t.rate_cap.0
+        → ahead found.outline best.outline ≡ false
         → ((j : ℕ) → j < length ds → Passed t ds costs counts best.outline r j) → Weighed t ds costs counts r (r + 1) found best
     all_weighed best kind rate kept p =
         record {
@@ -108,9 +111,6 @@ module _ (t : Tariff) (ds costs counts stops : List ℕ) (found : Choice) (k : S
         }
 
     module _ (best : Choice) (i : ℕ) (c : Charged) (g : Weighing t ds costs counts found r best c i) where
-      pub weighing_end : length ds ≤ i → Weighed t ds costs counts r (r + 1) found best
-      weighing_end l = all_weighed best g.kind g.rate g.kept (λ j z. g.passed j (omega arith))
-
       module _ (n : Charged) (l : i < length ds) (s : Stepped t r r (get_or ds i 0) c n) where
         pub weighing_stop : get_or stops i 0 ≤ n.charge → Weighed t ds costs counts r (r + 1) found best
         weighing_stop m = all_weighed best g.kind g.rate g.kept (λ j z. go j z (leb i j) refl)
@@ -136,9 +136,11 @@ module _ (t : Tariff) (ds costs counts stops : List ℕ) (found : Choice) (k : S
           kept_this : RunWeighed t ds costs counts r i best (better_choice best this)
           kept_this = run-kept t ds costs counts r i depth.0 l slow depth.1 best this g.kind g.rate this_is refl
 
-          pub weighing_next : (next : Choice) → next ≡ better_choice best this → Weighing t ds costs counts found r next n (i + 1)
+          pub weighing_next : (next : Choice) → next ≡ better_choice best this
+              → Weighing t ds costs counts found r next n (i + 1)
           weighing_next next f =
-              let x : RunWeighed t ds costs counts r i best next = subst (RunWeighed t ds costs counts r i best) (sym f) kept_this in
+              let x : RunWeighed t ds costs counts r i best next =
+              subst (RunWeighed t ds costs counts r i best) (sym f) kept_this in
               record {
                 walk = walk_on r r i c n g.walk l s m;
                 kind = x.kind;

@@ -6,109 +6,87 @@ ghost use Rattle.terms.specs.RangeRules.{TariffRange};
 ghost use Rattle.single.specs.Cost.{cost_at};
 ghost use Rattle.single.specs.CostLaws.{period_limit};
 ghost use Rattle.first_runs.specs.Outline.{unpriced};
-ghost use Rattle.first_runs.specs.SearchLaws.{PassedOver, Searching, Weighed};
+ghost use Rattle.first_runs.specs.Search.{PassesOver, Searches, Weighs};
 
 use crate::charges::Charged;
 use crate::outlines::{Choice, Outline, better_of};
 use single::costs::cost_at;
 use terms::{Rate, Tariff};
 
-// Weighs the rates from low to below end, unless none of them can better what is found.
-pub fn weigh_rates(
-    trace: &[u16],
-    tariff: Tariff,
-    low: u32,
-    end: u32,
-    costs: &[u64],
-    counts: &[u32],
-    stops: &[u64],
-    found: Choice,
-) -> Choice
-    requires low_lt_end { low < end }
-    requires end_bound { end ≤ tariff.rate_cap.0 + 1 }
-    requires searching { Searching tariff trace.now costs.now counts.now stops.now found }
-    ensures { Weighed tariff trace.now costs.now counts.now low end found result }
-{
-    if !may_better(
-        trace,
-        tariff,
-        Rate(low),
-        Rate(end - 1),
-        costs,
-        counts,
-        stops,
-        found,
-    ) {
-        return found;
-    }
-    let mut best = found;
-    for next in low..end {
-        best = weigh_rate(trace, tariff, Rate(next), costs, counts, stops, best);
-    }
-    best
+// A search from one start on: the demands from there on and the tariff, by the length of a first run, less
+// 1, the cost and the buckets of the best cutting of what is left, and the charges at which a walk stops.
+#[derive(Clone, Copy)]
+pub struct Search<'a> {
+    pub trace: &'a [u16],
+    pub tariff: Tariff,
+    pub costs: &'a [u64],
+    pub counts: &'a [u32],
+    pub stops: &'a [u64],
 }
 
-// One walk to the right at one rate, which weighs every run that it passes. It stops where every
-// longer run costs more than what is found.
-pub fn weigh_rate(
-    trace: &[u16],
-    tariff: Tariff,
-    rate: Rate,
-    costs: &[u64],
-    counts: &[u32],
-    stops: &[u64],
-    found: Choice,
-) -> Choice
-    requires rate_bound { rate.0 ≤ tariff.rate_cap.0 }
-    requires searching { Searching tariff trace.now costs.now counts.now stops.now found }
-    ensures { Weighed tariff trace.now costs.now counts.now rate.0 (rate.0 + 1) found result }
-{
-    let mut best = found;
-    let mut walk = Charged::new();
-    for (i, &demand) in trace.iter().enumerate() {
-        walk = walk.push(tariff, rate, rate, demand);
-        if stops[i] <= walk.charge {
-            return best;
+impl<'a> Search<'a> {
+    // Weighs the rates from low to below end, unless none of them can better what is found.
+    pub fn weigh_rates(self, low: u32, end: u32, found: Choice) -> Choice
+        requires low_lt_end { low < end }
+        requires end_bound { end ≤ self.tariff.rate_cap.0 + 1 }
+        requires searching { Searches self found }
+        ensures { Weighs self.entry low end found result }
+    {
+        if !self.may_better(Rate(low), Rate(end - 1), found) {
+            return found;
         }
-        let cost = cost_with(tariff, i, walk.charge, costs[i]);
-        let outline = Outline {
-            cost,
-            buckets: counts[i] + 1,
-            first: i as u32 + 1,
-        };
-        best = better_of(best, Choice { outline, rate });
+        let mut best = found;
+        for next in low..end {
+            best = self.weigh_rate(Rate(next), best);
+        }
+        best
     }
-    best
-}
 
-// Whether some run at a rate from low to high may cost as little as what is found: none costs less
-// than the low rate with the depth that the high one needs.
-fn may_better(
-    trace: &[u16],
-    tariff: Tariff,
-    low: Rate,
-    high: Rate,
-    costs: &[u64],
-    counts: &[u32],
-    stops: &[u64],
-    found: Choice,
-) -> bool
-    requires low_le_high { low.0 ≤ high.0 }
-    requires high_bound { high.0 ≤ tariff.rate_cap.0 }
-    requires searching { Searching tariff trace.now costs.now counts.now stops.now found }
-    ensures { PassedOver tariff trace.now costs.now counts.now low.0 high.0 found result }
-{
-    let mut walk = Charged::new();
-    for (i, &demand) in trace.iter().enumerate() {
-        walk = walk.push(tariff, high, low, demand);
-        if stops[i] <= walk.charge {
-            return false;
+    // One walk to the right at one rate, which weighs every run that it passes. It stops where every
+    // longer run costs more than what is found.
+    pub fn weigh_rate(self, rate: Rate, found: Choice) -> Choice
+        requires rate_bound { rate.0 ≤ self.tariff.rate_cap.0 }
+        requires searching { Searches self found }
+        ensures { Weighs self.entry rate.0 (rate.0 + 1) found result }
+    {
+        let mut best = found;
+        let mut walk = Charged::new();
+        for (i, &demand) in self.trace.iter().enumerate() {
+            walk = walk.push(self.tariff, rate, rate, demand);
+            if self.stops[i] <= walk.charge {
+                return best;
+            }
+            let outline = Outline {
+                cost: cost_with(self.tariff, i, walk.charge, self.costs[i]),
+                buckets: self.counts[i] + 1,
+                first: i as u32 + 1,
+            };
+            best = better_of(best, Choice { outline, rate });
         }
-        if cost_with(tariff, i, walk.charge, costs[i]) <= found.outline.cost {
-            return true;
-        }
+        best
     }
-    false
+
+    // Whether some run at a rate from low to high may cost as little as what is found: none costs less
+    // than the low rate with the depth that the high one needs. It walks as a weighing does, but each of the
+    // two loops ends in its own way, and one loop for both would call a closure in each period.
+    fn may_better(self, low: Rate, high: Rate, found: Choice) -> bool
+        requires low_le_high { low.0 ≤ high.0 }
+        requires high_bound { high.0 ≤ self.tariff.rate_cap.0 }
+        requires searching { Searches self found }
+        ensures { PassesOver self.entry low.0 high.0 found result }
+    {
+        let mut walk = Charged::new();
+        for (i, &demand) in self.trace.iter().enumerate() {
+            walk = walk.push(self.tariff, high, low, demand);
+            if self.stops[i] <= walk.charge {
+                return false;
+            }
+            if cost_with(self.tariff, i, walk.charge, self.costs[i]) <= found.outline.cost {
+                return true;
+            }
+        }
+        false
+    }
 }
 
 // What a run of i + 1 periods costs with the rest after it.

@@ -2,11 +2,12 @@
 ghost use Rattle.std.specs.Prelude.{◌≤◌};
 ghost use Rattle.single.specs.Rates.{weighed};
 ghost use Rattle.first_runs.specs.Charge.{Far};
-ghost use Rattle.first_runs.specs.SearchLaws.{BestFirst, Rests, Searching, Weighed};
+ghost use Rattle.first_runs.specs.Search.{Searches, Weighs};
+ghost use Rattle.first_runs.specs.SearchLaws.{BestFirst, Rests};
 
 use crate::charges::stops_of;
 use crate::outlines::{Choice, Outline, UNPRICED};
-use crate::runs::{weigh_rate, weigh_rates};
+use crate::runs::Search;
 use single::rates::rates_to_weigh;
 use terms::{Rate, Tariff};
 
@@ -40,29 +41,34 @@ pub fn best_first(
         },
         rate: begin,
     };
-    let found = weigh_rate(trace, tariff, begin, costs, counts, far, none);
+    let first = Search {
+        trace,
+        tariff,
+        costs,
+        counts,
+        stops: far,
+    };
+    let found = first.weigh_rate(begin, none);
     let stops = stops_of(costs, tariff, found.outline.cost);
-    weigh_all(trace, tariff, costs, counts, &stops, found)
+    let search = Search {
+        stops: &stops,
+        ..first
+    };
+    weigh_all(search, found)
 }
 
 // Weighs the candidate rates.
-fn weigh_all(
-    trace: &[u16],
-    tariff: Tariff,
-    costs: &[u64],
-    counts: &[u32],
-    stops: &[u64],
-    found: Choice,
-) -> Choice
-    requires { Searching tariff trace.now costs.now counts.now stops.now found }
-    ensures { Weighed tariff trace.now costs.now counts.now 0 (weighed tariff trace.now) found result }
+fn weigh_all(search: Search<'_>, found: Choice) -> Choice
+    requires { Searches search found }
+    ensures { Weighs search.entry 0 (weighed search.entry.tariff search.entry.trace.now) found result }
 {
-    let end = rates_to_weigh(trace, tariff);
+    let end = rates_to_weigh(search.trace, search.tariff);
     let mut best = found;
     let mut low: u32 = 0;
+    // by hand, since the step is not 1
     while low < end {
         let next = (low + TOGETHER).min(end);
-        best = weigh_rates(trace, tariff, low, next, costs, counts, stops, best);
+        best = search.weigh_rates(low, next, best);
         low = next;
     }
     best

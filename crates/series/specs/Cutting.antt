@@ -15,7 +15,8 @@ pub record FirstRun {X : Type 0} (periods : X → ℕ) (Fits : List ℕ → X �
 -- The runs make up the periods in their order, and each choice fits its run.
 pub data Cuts {X : Type 0} (periods : X → ℕ) (Fits : List ℕ → X → Type 0) : List ℕ → List X → Type 0 where
   none : Cuts periods Fits [] []
-  run : {ds : List ℕ} {x : X} {xs : List X} → FirstRun periods Fits ds x → Cuts periods Fits (drop (periods x) ds) xs → Cuts periods Fits ds (x ∷ xs)
+  run : {ds : List ℕ} {x : X} {xs : List X} → FirstRun periods Fits ds x → Cuts periods Fits (drop (periods x) ds) xs
+      → Cuts periods Fits ds (x ∷ xs)
 
 -- x is the `choice` for a run.
 abbrev pub Matches : {X : Type 0} → (List ℕ → Answer X) → List ℕ → X → Type 0
@@ -33,7 +34,8 @@ longer periods (x ∷ xs) (y ∷ ys) = smaller (periods y) (periods x) (longer p
 
 -- xs wins over ys: less cost, then fewer runs, then the longer first run, the longer second and so on.
 unfoldable pub wins : {X : Type 0} → (X → ℕ) → (X → ℕ) → List X → List X → Bool
-wins periods price xs ys = smaller (total price xs) (total price ys) (smaller (length xs) (length ys) (longer periods xs ys))
+wins periods price xs ys =
+    smaller (total price xs) (total price ys) (smaller (length xs) (length ys) (longer periods xs ys))
 
 -- The length of the first run; of no run 0.
 abbrev pub first_run : {X : Type 0} → (X → ℕ) → List X → ℕ
@@ -53,7 +55,8 @@ module _ {X : Type 0} (periods price : X → ℕ) (choice : List ℕ → Answer 
   -- `rests`: the best for what is left after 1, 2, .. periods.
   unfoldable pub best_first : List ℕ → List (Answer (List X)) → ℕ → Answer (List X)
   best_first ds rests zero = refused 7
-  best_first ds rests (suc k) = choose (wins periods price) (best_first ds rests k) (joined (choice (take (suc k) ds)) (get_or rests k (refused 7)))
+  best_first ds rests (suc k) =
+      choose (wins periods price) (best_first ds rests k) (joined (choice (take (suc k) ds)) (get_or rests k (refused 7)))
 
   -- The best cutting of the periods, and of what is left after 1, 2, .. and all of them.
   unfoldable pub bests : List ℕ → List (Answer (List X))

@@ -18,13 +18,15 @@ use Rattle.terms.specs.Records.{total}
 -- ---- The order of cuttings
 
 module _ {X : Type 0} (periods price : X → ℕ) where
-  not_longer-trans : (xs ys zs : List X) → longer periods ys xs ≡ false → longer periods zs ys ≡ false → longer periods zs xs ≡ false
+  not_longer-trans : (xs ys zs : List X) → longer periods ys xs ≡ false → longer periods zs ys ≡ false
+      → longer periods zs xs ≡ false
   unfolding longer
   not_longer-trans xs ys [] h k = refl
   not_longer-trans [] [] (z ∷ zs) h k = k
   not_longer-trans [] (y ∷ ys) (z ∷ zs) h k = absurd (true≢false h)
   not_longer-trans (x ∷ xs) [] (z ∷ zs) h k = absurd (true≢false k)
-  not_longer-trans (x ∷ xs) (y ∷ ys) (z ∷ zs) h k = smaller-trans _ _ _ _ _ _ k h (λ k. λ h. not_longer-trans xs ys zs h k)
+  not_longer-trans (x ∷ xs) (y ∷ ys) (z ∷ zs) h k =
+      smaller-trans _ _ _ _ _ _ k h (λ k. λ h. not_longer-trans xs ys zs h k)
 
   longer-asym : (xs ys : List X) → longer periods xs ys ≡ true → longer periods ys xs ≡ false
   unfolding longer
@@ -32,9 +34,11 @@ module _ {X : Type 0} (periods price : X → ℕ) where
   longer-asym (x ∷ xs) [] h = refl
   longer-asym (x ∷ xs) (y ∷ ys) h = smaller-asym _ _ _ _ h (λ h. longer-asym xs ys h)
 
-  not_wins-trans : (xs ys zs : List X) → wins periods price ys xs ≡ false → wins periods price zs ys ≡ false → wins periods price zs xs ≡ false
+  not_wins-trans : (xs ys zs : List X) → wins periods price ys xs ≡ false → wins periods price zs ys ≡ false
+      → wins periods price zs xs ≡ false
   unfolding wins
-  not_wins-trans xs ys zs h k = smaller-trans _ _ _ _ _ _ h k (λ h. λ k. smaller-trans _ _ _ _ _ _ h k (λ h. λ k. not_longer-trans xs ys zs h k))
+  not_wins-trans xs ys zs h k =
+      smaller-trans _ _ _ _ _ _ h k (λ h. λ k. smaller-trans _ _ _ _ _ _ h k (λ h. λ k. not_longer-trans xs ys zs h k))
 
   wins-asym : (xs ys : List X) → wins periods price xs ys ≡ true → wins periods price ys xs ≡ false
   unfolding wins
@@ -46,7 +50,8 @@ module _ {X : Type 0} (periods price : X → ℕ) where
   not_wins-cost xs ys h = (smaller_not (total price ys) (total price xs) _ h).0
 
   -- Nor does it win behind a first run of the same length that costs at least as much.
-  not_wins_join : (x y : X) (xs ys : List X) → periods y ≡ periods x → price x ≤ price y → wins periods price ys xs ≡ false
+  not_wins_join : (x y : X) (xs ys : List X) → periods y ≡ periods x → price x ≤ price y
+      → wins periods price ys xs ≡ false
       → wins periods price (y ∷ ys) (x ∷ xs) ≡ false
   unfolding wins longer total
   not_wins_join x y xs ys e l h =
@@ -68,7 +73,8 @@ module _ {X : Type 0} (periods price : X → ℕ) (Fits : List ℕ → X → Typ
   abbrev pub Cut : List ℕ → List X → Type 0
   Cut = Cuts periods Fits
 
-  pub cut_first : {ds : List ℕ} {x : X} {xs : List X} → Cut ds (x ∷ xs) → FirstRun periods Fits ds x × Cut (drop (periods x) ds) xs
+  pub cut_first : {ds : List ℕ} {x : X} {xs : List X} → Cut ds (x ∷ xs)
+      → FirstRun periods Fits ds x × Cut (drop (periods x) ds) xs
   cut_first (run f c) = (f, c)
 
   pub cut_none : {ds : List ℕ} → Cut ds [] → ds ≡ []
@@ -96,17 +102,20 @@ module _ {X : Type 0} (periods price : X → ℕ) (Fits : List ℕ → X → Typ
 
   module _ (ds : List ℕ) (k : ℕ) (l : suc k ≤ length ds) where
     -- A choice for the run and a cutting of the rest.
-    begins : (x : X) (xs : List X) → periods x ≡ length (take (suc k) ds) → Fits (take (suc k) ds) x → Cut (drop (suc k) ds) xs → Begins ds (suc k) (x ∷ xs)
+    begins : (x : X) (xs : List X) → periods x ≡ length (take (suc k) ds) → Fits (take (suc k) ds) x
+        → Cut (drop (suc k) ds) xs → Begins ds (suc k) (x ∷ xs)
     begins x xs e f c =
         let g : suc k ≡ periods x = sym (e ∙ length-take-le (suc k) ds l) in
-        let first_run : FirstRun periods Fits ds x = record { some = omega arith; inside = omega arith; fits = subst (λ (n : ℕ). Fits (take n ds) x) g f } in
+        let first_run : FirstRun periods Fits ds x =
+        record { some = omega arith; inside = omega arith; fits = subst (λ (n : ℕ). Fits (take n ds) x) g f } in
         record {
           cut = run first_run (subst (λ (n : ℕ). Cut (drop n ds) xs) g c);
           first = sym g;
         }
 
     -- … and taken apart again.
-    fits-run : (y : X) (ys : List X) → Begins ds (suc k) (y ∷ ys) → (periods y ≡ length (take (suc k) ds)) × Fits (take (suc k) ds) y × Cut (drop (suc k) ds) ys
+    fits-run : (y : X) (ys : List X) → Begins ds (suc k) (y ∷ ys)
+        → (periods y ≡ length (take (suc k) ds)) × Fits (take (suc k) ds) y × Cut (drop (suc k) ds) ys
     fits-run y ys b =
         let c = cut_first b.cut in (
           b.first ∙ sym (length-take-le (suc k) ds l),
@@ -114,7 +123,8 @@ module _ {X : Type 0} (periods price : X → ℕ) (Fits : List ℕ → X → Typ
           subst (λ (n : ℕ). Cut (drop n ds) ys) b.first c.1,
         )
 
-    best-joined : (a : Answer X) → IsChoice (take (suc k) ds) a → (r : Answer (List X)) → IsBestCut periods price (Cut (drop (suc k) ds)) r
+    best-joined : (a : Answer X) → IsChoice (take (suc k) ds) a → (r : Answer (List X))
+        → IsBestCut periods price (Cut (drop (suc k) ds)) r
         → IsBestCut periods price (Begins ds (suc k)) (joined a r)
     best-joined (figures x) o (figures xs) b = record { kind = begins x xs o.whole o.fits b.kind; none_preferred = beaten }
       where
@@ -150,7 +160,8 @@ module _ {X : Type 0} (periods price : X → ℕ) (Fits : List ℕ → X → Typ
 
   -- What is known of the list of rests: each is the best for what is left.
   abbrev pub Rests : List ℕ → List (Answer (List X)) → Type 0
-  Rests ds rests = (k : ℕ) → suc k ≤ length ds → IsBestCut periods price (Cut (drop (suc k) ds)) (get_or rests k (refused 7))
+  Rests ds rests =
+      (k : ℕ) → suc k ≤ length ds → IsBestCut periods price (Cut (drop (suc k) ds)) (get_or rests k (refused 7))
 
   module _ (choice : List ℕ → Answer X) (choices : (ds : List ℕ) → IsChoice ds (choice ds)) where
     pub first_is : (ds : List ℕ) (rests : List (Answer (List X))) → Rests ds rests → (k : ℕ) → k ≤ length ds
@@ -172,7 +183,8 @@ module _ {X : Type 0} (periods price : X → ℕ) (Fits : List ℕ → X → Typ
     none_of_none [] c = refl
     none_of_none (y ∷ ys) c = let f = (cut_first c).0 in absurd (omega (arith, f.some, f.inside))
 
-    pub bests_are : (ds : List ℕ) (k : ℕ) → k ≤ length ds → IsBestCut periods price (Cut (drop k ds)) (get_or (bests periods price choice ds) k (refused 7))
+    pub bests_are : (ds : List ℕ) (k : ℕ) → k ≤ length ds
+        → IsBestCut periods price (Cut (drop k ds)) (get_or (bests periods price choice ds) k (refused 7))
     unfolding bests
     bests_are [] zero l = record { kind = none; none_preferred = none_of_none }
     bests_are [] (suc k) l = absurd (omega arith)

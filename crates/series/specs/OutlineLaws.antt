@@ -22,21 +22,26 @@ carried-count t none = omega arith
 carried-count t (run {ds} {x} {xs} f c) = omega (arith, f.some, f.inside, carried-count t c, length-drop x.periods ds)
 
 module _ (t : Tariff) (h : TariffRange t) where
-  pub carried-cost : {ds : List ℕ} {xs : Cutting} → Carried t ds xs → true_cost_of t xs ≤ (period_limit + fee_limit) * length ds
+  pub carried-cost : {ds : List ℕ} {xs : Cutting} → Carried t ds xs
+      → true_cost_of t xs ≤ (period_limit + fee_limit) * length ds
   unfolding total
   carried-cost none = omega arith
   carried-cost (run {ds} {x} {xs} f c) =
       let s = f.fits in
-      let p = cost-le {t = t} {b = x.bucket} h (record { rates = le_trans s.rates h.rate_caps; depths = le_trans s.depths h.depth_caps }) x.periods in
+      let p =
+      cost-le {t = t} {b = x.bucket} h (record { rates = le_trans s.rates h.rate_caps; depths = le_trans s.depths h.depth_caps }) x.periods in
       omega (arith, p, f.some, f.inside, carried-cost c, length-drop x.periods ds)
 
-  pub carried-below : {ds : List ℕ} {xs : Cutting} → length ds ≤ trace_limit → Carried t ds xs → true_cost_of t xs < unpriced
+  pub carried-below : {ds : List ℕ} {xs : Cutting} → length ds ≤ trace_limit → Carried t ds xs
+      → true_cost_of t xs < unpriced
   carried-below few c = omega (arith, carried-cost c)
 
-  pub outline_cost : (ds : List ℕ) → length ds ≤ trace_limit → (a : Answer Cutting) → IsSeries t ds a → (outline_of t a).cost ≤ unpriced
+  pub outline_cost : (ds : List ℕ) → length ds ≤ trace_limit → (a : Answer Cutting) → IsSeries t ds a
+      → (outline_of t a).cost ≤ unpriced
   outline_cost ds few (figures xs) k = le_of_lt (carried-below few k.kind)
   outline_cost ds few (refused n) k = omega arith
 
-  pub outline_count : (ds : List ℕ) → length ds ≤ trace_limit → (a : Answer Cutting) → IsSeries t ds a → (outline_of t a).buckets ≤ trace_limit
+  pub outline_count : (ds : List ℕ) → length ds ≤ trace_limit → (a : Answer Cutting) → IsSeries t ds a
+      → (outline_of t a).buckets ≤ trace_limit
   outline_count ds few (figures xs) k = le_trans (carried-count t k.kind) few
   outline_count ds few (refused n) k = omega arith

@@ -16,7 +16,8 @@ use Rattle.series.specs.Cutting.{FirstRun, none, run, Matches, Choices, longer, 
 use Rattle.terms.specs.Records.{total}
 use Rattle.series.specs.CuttingLaws.{cut_first}
 
-choose_either : {A : Type 0} (preferred : A → A → Bool) (a b : Answer A) {x : A} → choose preferred a b ≡ figures x → (a ≡ figures x) ⊎ (b ≡ figures x)
+choose_either : {A : Type 0} (preferred : A → A → Bool) (a b : Answer A) {x : A} → choose preferred a b ≡ figures x
+    → (a ≡ figures x) ⊎ (b ≡ figures x)
 choose_either preferred a (refused n) e = inl e
 choose_either preferred (refused m) (figures y) e = inr e
 choose_either preferred (figures z) (figures y) {x} e = go (preferred y z) e
@@ -33,14 +34,16 @@ record Parts {X : Type 0} (a : Answer X) (rest : Answer (List X)) (ys : List X) 
   onward : rest ≡ figures tail
   all : ys ≡ head ∷ tail
 
-parts : {X : Type 0} (a : Answer X) (rest : Answer (List X)) {ys : List X} → joined a rest ≡ figures ys → Parts a rest ys
+parts : {X : Type 0} (a : Answer X) (rest : Answer (List X)) {ys : List X} → joined a rest ≡ figures ys
+    → Parts a rest ys
 parts (figures x) (figures xs) e = record { head = x; tail = xs; first = refl; onward = refl; all = sym (same-figures e) }
 parts (figures x) (refused n) e = absurd (figures-refused (sym e))
 parts (refused n) rest e = absurd (figures-refused (sym e))
 
 module _ {X : Type 0} (periods price : X → ℕ) (choice : List ℕ → Answer X) where
   -- The best for what is left after n periods.
-  pub bests-at : (ds : List ℕ) (n : ℕ) → n ≤ length ds → get_or (bests periods price choice ds) n (refused 7) ≡ best periods price choice (drop n ds)
+  pub bests-at : (ds : List ℕ) (n : ℕ) → n ≤ length ds
+      → get_or (bests periods price choice ds) n (refused 7) ≡ best periods price choice (drop n ds)
   unfolding bests
   bests-at ds zero l = refl
   bests-at [] (suc n) l = absurd (omega arith)
@@ -52,11 +55,13 @@ module _ {X : Type 0} (periods price : X → ℕ) (choice : List ℕ → Answer 
     inside : suc length ≤ k
     made : Parts (choice (take (suc length) ds)) (get_or rests length (refused 7)) ys
 
-  first_made : (ds : List ℕ) (rests : List (Answer (List X))) (k : ℕ) {ys : List X} → best_first periods price choice ds rests k ≡ figures ys → Made ds rests k ys
+  first_made : (ds : List ℕ) (rests : List (Answer (List X))) (k : ℕ) {ys : List X}
+      → best_first periods price choice ds rests k ≡ figures ys → Made ds rests k ys
   unfolding best_first
   first_made ds rests zero e = absurd (figures-refused (sym e))
   first_made ds rests (suc k) e =
-      ⊎_elim (λ f. let c = first_made ds rests k f in record { length = c.length; inside = omega (arith, c.inside); made = c.made })
+      ⊎_elim (λ f. let c =
+      first_made ds rests k f in record { length = c.length; inside = omega (arith, c.inside); made = c.made })
       (λ f. record { length = k; inside = omega arith; made = parts (choice (take (suc k) ds)) (get_or rests k (refused 7)) f })
       (choose_either (wins periods price) (best_first periods price choice ds rests k) (joined (choice (take (suc k) ds)) (get_or rests k (refused 7))) e)
 
@@ -64,7 +69,8 @@ module _ {X : Type 0} (periods price : X → ℕ) (choice : List ℕ → Answer 
   pub best_of_none : (ds : List ℕ) → best periods price choice ds ≡ figures [] → ds ≡ []
   unfolding bests
   best_of_none [] e = refl
-  best_of_none (d ∷ ds) e = absurd (nil≢cons (first_made (d ∷ ds) (bests periods price choice ds) (length (d ∷ ds)) e).made.all)
+  best_of_none (d ∷ ds) e =
+      absurd (nil≢cons (first_made (d ∷ ds) (bests periods price choice ds) (length (d ∷ ds)) e).made.all)
 
   module _ (whole : (ds : List ℕ) (x : X) → choice ds ≡ figures x → periods x ≡ length ds) where
     -- The first run of the best cutting: its length, its choice and what follows it.
@@ -83,7 +89,8 @@ module _ {X : Type 0} (periods price : X → ℕ) (choice : List ℕ → Answer 
         let x-is : x ≡ c.made.head = head-eq_of_cons-eq c.made.all in
         let xs-is : xs ≡ c.made.tail = tail-eq_of_cons-eq c.made.all in
         let taken : choice (take n (d ∷ ds)) ≡ figures x = c.made.first ∙ ap figures (sym x-is) in
-        let rest : best periods price choice (drop n (d ∷ ds)) ≡ figures xs = sym (bests-at ds c.length (omega (arith, c.inside))) ∙ c.made.onward ∙ ap figures (sym xs-is) in
+        let rest : best periods price choice (drop n (d ∷ ds)) ≡ figures xs =
+        sym (bests-at ds c.length (omega (arith, c.inside))) ∙ c.made.onward ∙ ap figures (sym xs-is) in
         let m : n ≡ periods x = sym (whole (take n (d ∷ ds)) x taken ∙ length-take-le n (d ∷ ds) c.inside) in
         record {
           some = omega arith;
@@ -93,7 +100,8 @@ module _ {X : Type 0} (periods price : X → ℕ) (choice : List ℕ → Answer 
         }
 
     -- Each run has its `choice`.
-    pub best_choices : (ds : List ℕ) (xs : List X) → best periods price choice ds ≡ figures xs → Choices periods choice ds xs
+    pub best_choices : (ds : List ℕ) (xs : List X) → best periods price choice ds ≡ figures xs
+        → Choices periods choice ds xs
     best_choices ds [] e = subst (λ (es : List ℕ). Choices periods choice es []) (sym (best_of_none ds e)) none
     best_choices ds (x ∷ xs) e =
         let k = best-runs ds x xs e in
@@ -101,7 +109,8 @@ module _ {X : Type 0} (periods price : X → ℕ) (choice : List ℕ → Answer 
         run f (best_choices (drop (periods x) ds) xs k.onward)
 
   -- Of two different cuttings with such choices one wins.
-  choices_same : (ds : List ℕ) (xs ys : List X) → Choices periods choice ds xs → Choices periods choice ds ys → longer periods xs ys ≡ false → longer periods ys xs ≡ false → xs ≡ ys
+  choices_same : (ds : List ℕ) (xs ys : List X) → Choices periods choice ds xs → Choices periods choice ds ys
+      → longer periods xs ys ≡ false → longer periods ys xs ≡ false → xs ≡ ys
   unfolding longer
   choices_same ds [] [] c d h k = refl
   choices_same ds [] (y ∷ ys) c d h k = absurd (true≢false k)
@@ -114,7 +123,8 @@ module _ {X : Type 0} (periods price : X → ℕ) (choice : List ℕ → Answer 
       ap (λ (z : X). z ∷ xs) e
       ∙ ap (λ (zs : List X). y ∷ zs) (choices_same (drop (periods y) ds) xs ys (subst (λ (n : ℕ). Choices periods choice (drop n ds) xs) (sym s.0) f.1) g.1 s.1 s.2)
 
-  pub choices_only : (ds : List ℕ) (xs ys : List X) → Choices periods choice ds xs → Choices periods choice ds ys → wins periods price xs ys ≡ false → wins periods price ys xs ≡ false → xs ≡ ys
+  pub choices_only : (ds : List ℕ) (xs ys : List X) → Choices periods choice ds xs → Choices periods choice ds ys
+      → wins periods price xs ys ≡ false → wins periods price ys xs ≡ false → xs ≡ ys
   unfolding wins
   choices_only ds xs ys c d h k =
       let a = smaller-same (total price xs) (total price ys) _ _ h k in

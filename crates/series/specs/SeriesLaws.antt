@@ -26,7 +26,8 @@ module _ (t : Tariff) where
   -- ---- A run's record
 
   -- The single bucket is the cheapest choice for its run.
-  chosen : (ds : List ℕ) (a : Answer Priced) → IsSingle t ds a → IsChoice run_length (run_cost t) (ServesRun t) ds (record_for (length ds) a)
+  chosen : (ds : List ℕ) (a : Answer Priced) → IsSingle t ds a
+      → IsChoice run_length (run_cost t) (ServesRun t) ds (record_for (length ds) a)
   chosen ds (figures x) k =
       record {
         whole = refl;
@@ -81,7 +82,8 @@ module _ (t : Tariff) where
       pub series-cheapest : (xs : Cutting) → series_of t room ds ≡ figures xs → Cheapest t ds xs
       unfolding series_of
       series-cheapest xs e =
-          let h = (weigh-figures (periods_ok (length ds)) 3 (weigh (tariff_ok t) 5 (weigh (leb (length ds) room) 6 (cheapest_cut t ds))) e).1 in
+          let h =
+          (weigh-figures (periods_ok (length ds)) 3 (weigh (tariff_ok t) 5 (weigh (leb (length ds) room) 6 (cheapest_cut t ds))) e).1 in
           let k = (weigh-figures (tariff_ok t) 5 (weigh (leb (length ds) room) 6 (cheapest_cut t ds)) h).1 in
           cut-cheapest xs (weigh-figures (leb (length ds) room) 6 (cheapest_cut t ds) k).1
 
@@ -89,7 +91,8 @@ module _ (t : Tariff) where
       pub series-room : (xs : Cutting) → series_of t room ds ≡ figures xs → length ds ≤ room
       unfolding series_of
       series-room xs e =
-          let h = (weigh-figures (periods_ok (length ds)) 3 (weigh (tariff_ok t) 5 (weigh (leb (length ds) room) 6 (cheapest_cut t ds))) e).1 in
+          let h =
+          (weigh-figures (periods_ok (length ds)) 3 (weigh (tariff_ok t) 5 (weigh (leb (length ds) room) 6 (cheapest_cut t ds))) e).1 in
           let k = (weigh-figures (tariff_ok t) 5 (weigh (leb (length ds) room) 6 (cheapest_cut t ds)) h).1 in
           leb-true _ _ (weigh-figures (leb (length ds) room) 6 (cheapest_cut t ds) k).0
 
@@ -97,11 +100,13 @@ module _ (t : Tariff) where
       pub series_none : series_of t room ds ≡ refused 7 → NoCutting ds
       unfolding series_of
       series_none e =
-          let h = (weigh-refused (periods_ok (length ds)) 3 7 (weigh (tariff_ok t) 5 (weigh (leb (length ds) room) 6 (cheapest_cut t ds))) refl e).1 in
+          let h =
+          (weigh-refused (periods_ok (length ds)) 3 7 (weigh (tariff_ok t) 5 (weigh (leb (length ds) room) 6 (cheapest_cut t ds))) refl e).1 in
           let k = (weigh-refused (tariff_ok t) 5 7 (weigh (leb (length ds) room) 6 (cheapest_cut t ds)) refl h).1 in
           (subst (IsSeries ds) (weigh-refused (leb (length ds) room) 6 7 (cheapest_cut t ds) refl k).1 series-is).1
 
-      pub none_series : periods_ok (length ds) ≡ true → tariff_ok t ≡ true → leb (length ds) room ≡ true → NoCutting ds → series_of t room ds ≡ refused 7
+      pub none_series : periods_ok (length ds) ≡ true → tariff_ok t ≡ true → leb (length ds) room ≡ true
+          → NoCutting ds → series_of t room ds ≡ refused 7
       unfolding series_of
       none_series h k l none = rw (h, k, l) (go (cheapest_cut t ds) series-is)
         where
@@ -110,7 +115,8 @@ module _ (t : Tariff) where
           go (refused n) i = ap refused i.0
 
       -- A trace and a tariff in their ranges with room for the records meet no other refusal.
-      pub series_refuses : periods_ok (length ds) ≡ true → tariff_ok t ≡ true → leb (length ds) room ≡ true → (n : ℕ) → series_of t room ds ≡ refused n → n ≡ 7
+      pub series_refuses : periods_ok (length ds) ≡ true → tariff_ok t ≡ true → leb (length ds) room ≡ true → (n : ℕ)
+          → series_of t room ds ≡ refused n → n ≡ 7
       unfolding series_of
       series_refuses h k l n e =
           let f : weigh true 3 (weigh true 5 (weigh true 6 (cheapest_cut t ds))) ≡ refused n = rw (h, k, l) at e in

@@ -65,24 +65,29 @@ pub record Left (t : Tariff) (ds : List ℕ) (costs counts : List ℕ) : Type 0 
   pub count : After kept_count t ds counts
 
 -- A cost other than what stands for none is that of a cutting.
-pub outline_found : (t : Tariff) (a : Answer Cutting) → ((outline_of t a).cost ≡ unpriced → ⊥) → (xs : Cutting) × (a ≡ figures xs)
+pub outline_found : (t : Tariff) (a : Answer Cutting) → ((outline_of t a).cost ≡ unpriced → ⊥)
+    → (xs : Cutting) × (a ≡ figures xs)
 outline_found t (figures xs) n = (xs, refl)
 outline_found t (refused m) n = absurd (n refl)
 
 -- ---- The best cutting of some periods, from those of what is left after its first run
 
 -- Where a cutting is not preferred its outline is not ahead: its first run, for one, is not longer.
-first_not_longer : (ys xs : Cutting) → longer run_length ys xs ≡ false → ltb (first_run run_length xs) (first_run run_length ys) ≡ false
+first_not_longer : (ys xs : Cutting) → longer run_length ys xs ≡ false
+    → ltb (first_run run_length xs) (first_run run_length ys) ≡ false
 unfolding longer
 first_not_longer [] xs h = le-ltb (first_run run_length xs) 0 (omega arith)
 first_not_longer (y ∷ ys) [] h = absurd (true≢false h)
-first_not_longer (y ∷ ys) (x ∷ xs) h = le-ltb (run_length x) (run_length y) (smaller_not (run_length x) (run_length y) _ h).0
+first_not_longer (y ∷ ys) (x ∷ xs) h =
+    le-ltb (run_length x) (run_length y) (smaller_not (run_length x) (run_length y) _ h).0
 
-not_preferred-ahead : (t : Tariff) (ys xs : Cutting) → cutting_preferred t ys xs ≡ false → ahead (outline_of t (figures ys)) (outline_of t (figures xs)) ≡ false
+not_preferred-ahead : (t : Tariff) (ys xs : Cutting) → cutting_preferred t ys xs ≡ false
+    → ahead (outline_of t (figures ys)) (outline_of t (figures xs)) ≡ false
 unfolding wins ahead
 not_preferred-ahead t ys xs h =
     let c = smaller_not (true_cost_of t ys) (true_cost_of t xs) _ h in
-    not_smaller _ _ _ c.0 (λ e. let n = smaller_not (length ys) (length xs) _ (c.1 e) in not_smaller _ _ _ n.0 (λ f. first_not_longer ys xs (n.1 f)))
+    not_smaller _ _ _ c.0 (λ e. let n =
+    smaller_not (length ys) (length xs) _ (c.1 e) in not_smaller _ _ _ n.0 (λ f. first_not_longer ys xs (n.1 f)))
 
 module _ (t : Tariff) (h : TariffRange t) (ds : List ℕ) (few : length ds ≤ trace_limit) (costs counts : List ℕ) (k : Left t ds costs counts) where
   -- A bound on a figure of every outline is one on the list.
@@ -146,16 +151,20 @@ module _ (t : Tariff) (h : TariffRange t) (ds : List ℕ) (few : length ds ≤ t
     o = c.outline
 
     -- The best cutting is not ahead of what is found …
-    best_behind : (xs : Cutting) → cheapest_cut t ds ≡ figures xs → Carried t ds xs → ahead (outline_of t (figures xs)) o ≡ false
-    best_behind [] e d = absurd (omega (arith, k.some, ap length (best_of_none run_length (run_cost t) (run_record t) ds e)))
+    best_behind : (xs : Cutting) → cheapest_cut t ds ≡ figures xs → Carried t ds xs
+        → ahead (outline_of t (figures xs)) o ≡ false
+    best_behind [] e d =
+        absurd (omega (arith, k.some, ap length (best_of_none run_length (run_cost t) (run_record t) ds e)))
     best_behind (x ∷ xs) e d =
         let b = best-runs run_length (run_cost t) (run_record t) (record_whole t) ds x xs e in
         let g = (cut_first run_length (run_cost t) (ServesRun t) d).0.fits in
         let i = run_length x - 1 in
         let n : run_length x ≡ suc i = omega (arith, b.some) in
         let inside : i < length ds = omega (arith, b.inside, n) in
-        let s : Serves t (take (i + 1) ds) x.bucket = subst (λ (m : ℕ). Serves t (take m ds) x.bucket) (n ∙ sym (add-one i)) g in
-        let rest : cheapest_cut t (drop (suc i) ds) ≡ figures xs = subst (λ (m : ℕ). cheapest_cut t (drop m ds) ≡ figures xs) n b.onward in
+        let s : Serves t (take (i + 1) ds) x.bucket =
+        subst (λ (m : ℕ). Serves t (take m ds) x.bucket) (n ∙ sym (add-one i)) g in
+        let rest : cheapest_cut t (drop (suc i) ds) ≡ figures xs =
+        subst (λ (m : ℕ). cheapest_cut t (drop m ds) ≡ figures xs) n b.onward in
         let is : starts_with t ds costs counts i x.bucket.rate.0 x.bucket.depth.0 ≡ outline_of t (figures (x ∷ xs)) =
         whole_outline i x.bucket.rate.0 x.bucket.depth.0 inside s xs rest ∙ ap (λ (m : ℕ). outline_of t (figures (record { periods = m; bucket = x.bucket } ∷ xs))) (sym n) in
         subst (λ (y : Outline). ahead y o ≡ false) is (f.passed x.bucket.rate.0 i g.rates inside x.bucket.depth.0 s)
@@ -164,7 +173,8 @@ module _ (t : Tariff) (h : TariffRange t) (ds : List ℕ) (few : length ds ≤ t
     pub search_found : o ≡ outline_of t (cheapest_cut t ds)
     search_found = go (cheapest_cut t ds) refl (series-is t ds) f.kind
       where
-        go : (a : Answer Cutting) → cheapest_cut t ds ≡ a → IsSeries t ds a → Kind t ds costs counts o → o ≡ outline_of t a
+        go : (a : Answer Cutting) → cheapest_cut t ds ≡ a → IsSeries t ds a → Kind t ds costs counts o
+            → o ≡ outline_of t a
         go (figures xs) e b (inl none) =
             absurd (omega (arith, carried-below t h few b.kind, not_ahead-cost o (outline_of t (figures xs)) (best_behind xs e b.kind), ap (λ (x : Outline). x.cost) none))
         go (figures xs) e b (inr s) =
@@ -186,7 +196,8 @@ part_at : (xs : List ℕ) (a n i : ℕ) → i < n → get_or (take n (drop a xs)
 part_at xs a n i l = get_or-take n (drop a xs) i 0 l ∙ get_or-drop a xs i 0
 
 -- A list that follows f from one entry on, and now from the entry before it.
-set_before : (f : ℕ → ℕ) (xs : List ℕ) (start end v : ℕ) → start < length xs → v ≡ f start → ((j : ℕ) → suc start ≤ j → j ≤ end → get_or xs j 0 ≡ f j)
+set_before : (f : ℕ → ℕ) (xs : List ℕ) (start end v : ℕ) → start < length xs → v ≡ f start
+    → ((j : ℕ) → suc start ≤ j → j ≤ end → get_or xs j 0 ≡ f j)
     → (j : ℕ) → start ≤ j → j ≤ end → get_or (set xs start v) j 0 ≡ f j
 set_before f xs start end v room e all j l m = go (eqb j start) refl
   where
@@ -227,28 +238,36 @@ module _ (t : Tariff) (ds : List ℕ) (start : ℕ) (l : start < length ds) wher
     pub kept-left : Left t (drop start ds) (take (length ds + 1 - suc start) (drop (suc start) costs)) (take (length ds + 1 - suc start) (drop (suc start) counts))
     kept-left = record { some = omega (arith, left-length); cost = held_after kept_cost costs k.cost; count = held_after kept_count counts k.count }
 
-    pub kept_more : (o : Outline) → o ≡ outline_from t ds start → Kept t ds start (set costs start o.cost) (set counts start o.buckets) (set firsts start o.first)
+    pub kept_more : (o : Outline) → o ≡ outline_from t ds start
+        → Kept t ds start (set costs start o.cost) (set counts start o.buckets) (set firsts start o.first)
     kept_more o e = record { cost = held_more kept_cost costs k.cost o e; count = held_more kept_count counts k.count o e; first = held_more kept_first firsts k.first o e }
 
 -- ---- Before the first turn and after the last
 
 -- After the last period nothing is left, and it costs nothing.
-none_left : (t : Tariff) (ds : List ℕ) (j : ℕ) → length ds ≤ j → outline_from t ds j ≡ record { cost = 0; buckets = 0; first = 0 }
+none_left : (t : Tariff) (ds : List ℕ) (j : ℕ) → length ds ≤ j
+    → outline_from t ds j ≡ record { cost = 0; buckets = 0; first = 0 }
 unfolding bests total
 none_left t ds j l = ap (λ (es : List ℕ). outline_of t (cheapest_cut t es)) (drop_of_length-le ds l)
 
-held_start : (figure : Outline → ℕ) (t : Tariff) (ds : List ℕ) → length ds ≤ trace_limit → figure (record { cost = 0; buckets = 0; first = 0 }) ≡ 0
+held_start : (figure : Outline → ℕ) (t : Tariff) (ds : List ℕ) → length ds ≤ trace_limit
+    → figure (record { cost = 0; buckets = 0; first = 0 }) ≡ 0
     → Held figure t ds (length ds) (replicate 513 0)
 held_start figure t ds few z = record { room = omega arith; at = λ j l m. get_or-replicate 513 j 0 0 (omega arith) ∙ sym z ∙ ap figure (sym (none_left t ds j l)) }
 
-pub kept_start : (t : Tariff) (ds : List ℕ) → length ds ≤ trace_limit → Kept t ds (length ds) (replicate 513 0) (replicate 513 0) (replicate 513 0)
+pub kept_start : (t : Tariff) (ds : List ℕ) → length ds ≤ trace_limit
+    → Kept t ds (length ds) (replicate 513 0) (replicate 513 0) (replicate 513 0)
 kept_start t ds few = record { cost = held_start kept_cost t ds few refl; count = held_start kept_count t ds few refl; first = held_start kept_first t ds few refl }
 
 -- An outline without a cost is that of refusal 7, and the outline of a cutting gives the figures of a plan.
-pub outline_none : (t : Tariff) → TariffRange t → (ds : List ℕ) → length ds ≤ trace_limit → (a : Answer Cutting) → IsSeries t ds a
+pub outline_none : (t : Tariff) → TariffRange t → (ds : List ℕ) → length ds ≤ trace_limit → (a : Answer Cutting)
+    → IsSeries t ds a
     → (outline_of t a).cost ≡ unpriced → a ≡ refused 7
 outline_none t h ds few (figures xs) k e = absurd (omega (arith, carried-below t h few k.kind))
 outline_none t h ds few (refused n) k e = ap refused k.0
 
-pub outline_plan : (t : Tariff) (a : Answer Cutting) (xs : Cutting) → a ≡ figures xs → plan_of t a ≡ figures (record { buckets = (outline_of t a).buckets; cost = (outline_of t a).cost })
-outline_plan t a xs e = ap (plan_of t) e ∙ ap (λ (b : Answer Cutting). figures (record { buckets = (outline_of t b).buckets; cost = (outline_of t b).cost })) (sym e)
+pub outline_plan : (t : Tariff) (a : Answer Cutting) (xs : Cutting) → a ≡ figures xs
+    → plan_of t a ≡ figures (record { buckets = (outline_of t a).buckets; cost = (outline_of t a).cost })
+outline_plan t a xs e =
+    ap (plan_of t) e
+    ∙ ap (λ (b : Answer Cutting). figures (record { buckets = (outline_of t b).buckets; cost = (outline_of t b).cost })) (sym e)

@@ -57,7 +57,8 @@ module _ (t : Tariff) (ds : List ℕ) where
     at_k x w = subst (λ (r : ℕ). At r x.bucket.depth.0) w.rates w.serves
 
     -- At rate k the smallest depth is the one to weigh.
-    best-at : (o : Answer ℕ) → tariff_depth t k ds ≡ o → IsBest preferred (WithRate (λ r. r ≡ k)) (at_depth t (length ds) k o)
+    best-at : (o : Answer ℕ) → tariff_depth t k ds ≡ o
+        → IsBest preferred (WithRate (λ r. r ≡ k)) (at_depth t (length ds) k o)
     best-at (figures B) e =
         record {
           kind = with_rate (λ r. r ≡ k) k B refl (found_at B e);
@@ -75,9 +76,11 @@ module _ (t : Tariff) (ds : List ℕ) where
       where
         go : (b : Bool) → ltb x.bucket.rate.0 k ≡ b → WithRate (λ r. r < k) x ⊎ WithRate (λ r. r ≡ k) x
         go true e = inl (record { rates = ltb-true _ _ e; serves = w.serves; paid = w.paid })
-        go false e = inr (record { rates = le_antisymm (le_of_suc-le-suc w.rates) (ltb-false _ _ e); serves = w.serves; paid = w.paid })
+        go false e =
+            inr (record { rates = le_antisymm (le_of_suc-le-suc w.rates) (ltb-false _ _ e); serves = w.serves; paid = w.paid })
 
-    one_more : (a : Answer Priced) → IsBestOf k a → (o : Answer ℕ) → tariff_depth t k ds ≡ o → IsBestOf (suc k) (better a (at_depth t (length ds) k o))
+    one_more : (a : Answer Priced) → IsBestOf k a → (o : Answer ℕ) → tariff_depth t k ds ≡ o
+        → IsBestOf (suc k) (better a (at_depth t (length ds) k o))
     one_more a b o e =
         best-choose preferred preferred-order (WithRate (λ r. r < k)) (WithRate (λ r. r ≡ k)) (WithRate (λ r. r < suc k))
         (λ x w. record { rates = omega (arith, w.rates); serves = w.serves; paid = w.paid })

@@ -16,7 +16,8 @@ use Rattle.single.specs.Cost.{billed, charge_of, cost_at, cost_of, priced_at}
 pub priced_is : (t : Tariff) (n : ℕ) (x : Priced) → x.cost ≡ cost_of t n x.bucket → x ≡ priced_at t n x.bucket
 priced_is t n x e = ap (λ (c : ℕ). record { bucket = x.bucket; cost = c }) e
 
-pub cost_mono : (t : Tariff) (n : ℕ) (b c : Bucket) → b.rate.0 ≤ c.rate.0 → b.depth.0 ≤ c.depth.0 → cost_of t n b ≤ cost_of t n c
+pub cost_mono : (t : Tariff) (n : ℕ) (b c : Bucket) → b.rate.0 ≤ c.rate.0 → b.depth.0 ≤ c.depth.0
+    → cost_of t n b ≤ cost_of t n c
 unfolding cost_of
 cost_mono t n b c h k =
     let l = add-le-add (mul-le-mul_left t.rate_price.0 h) (mul-le-mul_left t.depth_price.0 k) in
@@ -57,7 +58,8 @@ pub record Dear (t : Tariff) (n rest most dear : ℕ) : Type 0 where
   pub few : dear ≤ charge_end
   pub less : (c : ℕ) → c ≤ period_limit → cost_at t n c + rest ≤ most → c < dear
 
-pub dear_some : (t : Tariff) (n rest most : ℕ) → 1 ≤ n → (d : ℕ) → d ≡ (most - (t.fee + rest)) / billed t n + 1 → d ≤ charge_end → Dear t n rest most d
+pub dear_some : (t : Tariff) (n rest most : ℕ) → 1 ≤ n → (d : ℕ) → d ≡ (most - (t.fee + rest)) / billed t n + 1
+    → d ≤ charge_end → Dear t n rest most d
 dear_some t n rest most some d e h =
     record {
       few = h;

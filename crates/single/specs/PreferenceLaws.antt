@@ -70,13 +70,15 @@ smaller_so a b rest h = go (ltb a b) refl h
     go true e k = let l = ltb-true a b e in (omega arith, λ f. absurd (omega arith))
     go false e k = let f = and_both (eqb a b) rest k in let g = eqb-true a b f.0 in (omega arith, λ i. f.1)
 
-pub smaller-trans : (a b c : ℕ) (s t u : Bool) → smaller b a s ≡ false → smaller c b t ≡ false → (s ≡ false → t ≡ false → u ≡ false) → smaller c a u ≡ false
+pub smaller-trans : (a b c : ℕ) (s t u : Bool) → smaller b a s ≡ false → smaller c b t ≡ false
+    → (s ≡ false → t ≡ false → u ≡ false) → smaller c a u ≡ false
 smaller-trans a b c s t u h k f =
     let i = smaller_not b a s h in
     let j = smaller_not c b t k in
     not_smaller c a u (le_trans i.0 j.0) (λ e. f (i.1 (le_antisymm (le_trans j.0 (le_of_eq e)) i.0)) (j.1 (le_antisymm (le_trans (le_of_eq e) i.0) j.0)))
 
-pub smaller-same : (a b : ℕ) (s t : Bool) → smaller a b s ≡ false → smaller b a t ≡ false → (a ≡ b) × (s ≡ false) × (t ≡ false)
+pub smaller-same : (a b : ℕ) (s t : Bool) → smaller a b s ≡ false → smaller b a t ≡ false
+    → (a ≡ b) × (s ≡ false) × (t ≡ false)
 smaller-same a b s t h k =
     let i = smaller_not a b s h in
     let j = smaller_not b a t k in
@@ -127,4 +129,5 @@ dearer_not_preferred x y h = not_smaller y.cost x.cost _ (le_of_lt h) (λ e. abs
 pub larger_not_preferred : (t : Tariff) (n : ℕ) (b c : Bucket) → b.rate.0 ≤ c.rate.0 → b.depth.0 ≤ c.depth.0
     → preferred (priced_at t n c) (priced_at t n b) ≡ false
 unfolding preferred
-larger_not_preferred t n b c h k = not_smaller _ _ _ (cost_mono t n b c h k) (λ e. not_smaller _ _ _ h (λ e. not_smaller _ _ _ k (λ e. refl)))
+larger_not_preferred t n b c h k =
+    not_smaller _ _ _ (cost_mono t n b c h k) (λ e. not_smaller _ _ _ h (λ e. not_smaller _ _ _ k (λ e. refl)))

@@ -31,25 +31,29 @@ module _ (t : Tariff) (ds : List ℕ) where
   abbrev NoneFrom : Priced → ℕ → Type 0
   NoneFrom x k = (r : ℕ) → k ≤ r → NoneBefore t ds x r
 
-  passed_by : (r : ℕ) (x : Priced) → NoneBefore t ds x r → (o : Answer ℕ) → tariff_depth t r ds ≡ o → better (figures x) (at_depth t (length ds) r o) ≡ figures x
+  passed_by : (r : ℕ) (x : Priced) → NoneBefore t ds x r → (o : Answer ℕ) → tariff_depth t r ds ≡ o
+      → better (figures x) (at_depth t (length ds) r o) ≡ figures x
   passed_by r x h (refused n) e = refl
   passed_by r x h (figures B) e = rw (h B (found_at t ds r B e))
 
   -- Where no rate from k on has a bucket that is preferred, weighing them changes nothing.
-  weighed_on : (k : ℕ) (x : Priced) → figures x ≡ best_of t ds k → NoneFrom x k → (m : ℕ) → figures x ≡ best_of t ds (k + m)
+  weighed_on : (k : ℕ) (x : Priced) → figures x ≡ best_of t ds k → NoneFrom x k → (m : ℕ)
+      → figures x ≡ best_of t ds (k + m)
   weighed_on k x e h zero = e ∙ ap (best_of t ds) (sym (add-zero k))
   weighed_on k x e h (suc m) =
       sym (passed_by (k + m) x (h (k + m) (omega arith)) (tariff_depth t (k + m) ds) refl)
       ∙ best_next t ds (k + m) (tariff_depth t (k + m) ds) (figures x) refl (weighed_on k x e h m)
       ∙ ap (best_of t ds) (omega arith)
 
-  weighed_all : (k : ℕ) (x : Priced) → figures x ≡ best_of t ds k → NoneFrom x k → k ≤ candidates t → figures x ≡ cheapest_of t ds
+  weighed_all : (k : ℕ) (x : Priced) → figures x ≡ best_of t ds k → NoneFrom x k → k ≤ candidates t
+      → figures x ≡ cheapest_of t ds
   weighed_all k x e h l =
       let m : k + (candidates t - k) ≡ candidates t = omega arith in
       weighed_on k x e h (candidates t - k) ∙ ap (best_of t ds) m
 
   -- Once the rates left cost more than what is found, even at depth 0.
-  pub dearer-enough : (k : ℕ) (a : Answer Priced) → a ≡ best_of t ds (k + 1) → dearer (priced_at t (length ds) (bucket_of k 0)) a ≡ true → k + 1 ≤ candidates t → a ≡ cheapest_of t ds
+  pub dearer-enough : (k : ℕ) (a : Answer Priced) → a ≡ best_of t ds (k + 1)
+      → dearer (priced_at t (length ds) (bucket_of k 0)) a ≡ true → k + 1 ≤ candidates t → a ≡ cheapest_of t ds
   dearer-enough k (refused n) e h l = absurd (false≢true h)
   dearer-enough k (figures x) e h l =
       weighed_all (k + 1) x e
@@ -60,8 +64,10 @@ module _ (t : Tariff) (ds : List ℕ) where
   zero-depth : At t ds (greatest ds) 0
   zero-depth = record { inside = omega arith; carried = greatest-carries (greatest ds) 0 _ ds (omega arith) }
 
-  above_none : (a : Answer Priced) → a ≡ best_of t ds (greatest ds + 1) → IsBestOf t ds (greatest ds + 1) a → (m : ℕ) → best_of t ds (greatest ds + 1 + m) ≡ a
-  above_none (refused n) e k m = absurd (k.1 (here t ds (greatest ds) 0) (with_rate t ds (λ r. r < greatest ds + 1) (greatest ds) 0 (omega arith) zero-depth))
+  above_none : (a : Answer Priced) → a ≡ best_of t ds (greatest ds + 1) → IsBestOf t ds (greatest ds + 1) a → (m : ℕ)
+      → best_of t ds (greatest ds + 1 + m) ≡ a
+  above_none (refused n) e k m =
+      absurd (k.1 (here t ds (greatest ds) 0) (with_rate t ds (λ r. r < greatest ds + 1) (greatest ds) 0 (omega arith) zero-depth))
   above_none (figures x) e k m =
       sym (weighed_on (greatest ds + 1) x e
       (λ r m B s.

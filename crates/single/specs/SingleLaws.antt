@@ -41,7 +41,8 @@ module _ (t : Tariff) (ds : List ℕ) where
       record {
         serves = record { rates = omega (arith, k.kind.rates); depths = k.kind.serves.inside; carried = k.kind.serves.carried };
         paid = k.kind.paid;
-        none_preferred = λ b s. none_before t ds (candidates t) x k b.rate.0 (omega (arith, s.rates)) b.depth.0 (serves-at s);
+        none_preferred =
+            λ b s. none_before t ds (candidates t) x k b.rate.0 (omega (arith, s.rates)) b.depth.0 (serves-at s);
       }
   single_best (refused n) k =
       (k.0, λ b s. k.1 (here t ds b.rate.0 b.depth.0) (with_rate t ds (λ r. r < candidates t) b.rate.0 b.depth.0 (omega (arith, s.rates)) (serves-at s)))
@@ -50,7 +51,8 @@ module _ (t : Tariff) (ds : List ℕ) where
   cheapest-is = single_best (cheapest_of t ds) (best-is t ds (candidates t))
 
   -- No other bucket that carries the trace costs less.
-  pub cheapest-least : {x : Priced} → CheapestBucket t ds x → (b : Bucket) → Serves t ds b → x.cost ≤ cost_of t (length ds) b
+  pub cheapest-least : {x : Priced} → CheapestBucket t ds x → (b : Bucket) → Serves t ds b
+      → x.cost ≤ cost_of t (length ds) b
   cheapest-least k b s = not_preferred-cost _ _ (k.none_preferred b s)
 
   -- There is one answer of that kind only.

@@ -1,7 +1,7 @@
 -- What a bucket that carries a trace says of the parts of a walk at any rate, and what these say of the lines that cut.
 -- Assumes nothing.
-use Rattle.std.specs.Prelude.{ℕ, ◌+◌, ◌*◌, ◌≤◌, ◌<◌, true, List, ◌≡◌, refl, take}
-use Rattle.std.proofs.Common.{arith, le_trans, mul-le-mul, mul-le-mul_left, sym, subst}
+use Rattle.std.specs.Prelude.{ℕ, ◌+◌, ◌*◌, ◌≤◌, ◌<◌, true, List, ◌≡◌, take}
+use Rattle.std.proofs.Common.{arith, le_trans, mul-le-mul, mul-le-mul_left}
 use Rattle.terms.specs.declared.Factor.{Factor}
 use Rattle.terms.specs.declared.Tariff.{Tariff}
 use Rattle.terms.specs.Limits.{demand_limit, rate_limit, trace_limit, price_limit, parts_limit, depth_limit}
@@ -15,11 +15,12 @@ use Rattle.depth.specs.WalkLaws.{Enough, carried-enough}
 use Rattle.spans.specs.declared.narrow.Line.{Line}
 use Rattle.spans.specs.declared.parts.Parts.{Parts}
 use Rattle.spans.specs.Narrow.{Allows, LineRange, Serving, charge_end}
-use Rattle.spans.specs.Parts.{PartsRange, PartsAt}
+use Rattle.spans.specs.Parts.{PartsAt}
 
 -- A bucket inside the cap that carries the periods walked and charges less than `dear` leaves its rate possible,
 -- at whatever rate the walk was.
-pub carried_serving : (t : Tariff) → FactorRange t.factor → (r : ℕ) (ds : List ℕ) (i : ℕ) (s : Parts) → PartsAt r ds i s → (x B dear : ℕ)
+pub carried_serving : (t : Tariff) → FactorRange t.factor → (r : ℕ) (ds : List ℕ) (i : ℕ) (s : Parts)
+    → PartsAt r ds i s → (x B dear : ℕ)
     → carries t.factor.p t.factor.q x B (take i ds) ≡ true → B ≤ t.depth_cap.0 → t.rate_price.0 * x + t.depth_price.0 * B < dear
     → Serving t r s dear x
 carried_serving t h r ds i s k x B dear c m d =
@@ -52,15 +53,18 @@ module _ (t : Tariff) (r : ℕ) (s : Parts) (dear x : ℕ) (a : Serving t r s de
   pub serving_rate : t.rate_price.0 * x + 1 ≤ dear + 0 * x
   serving_rate = omega (arith, a.cheap)
 
-  pub serving_stretch : (l : Line) → l.sum ≡ s.walk.stretch + r * s.stretch → l.len ≡ s.stretch → Allows t (record { p = 1; q = 1 }) l dear x
+  pub serving_stretch : (l : Line) → l.sum ≡ s.walk.stretch + r * s.stretch → l.len ≡ s.stretch
+      → Allows t (record { p = 1; q = 1 }) l dear x
   serving_stretch l e f = record { depth = a.depth; capped = a.capped; cheap = a.cheap; met = rw (e, f) (omega (arith, a.stretch)) }
 
-  pub serving_opening : (l : Line) → l.sum ≡ s.walk.opening + r * s.opening → l.len ≡ s.opening → Allows t t.factor l dear x
+  pub serving_opening : (l : Line) → l.sum ≡ s.walk.opening + r * s.opening → l.len ≡ s.opening
+      → Allows t t.factor l dear x
   serving_opening l e f = record { depth = a.depth; capped = a.capped; cheap = a.cheap; met = rw (e, f) a.opening }
 
 -- ---- Ranges
 
-pub line_range : (need r len : ℕ) (l : Line) → need ≤ demand_limit * trace_limit → r ≤ rate_limit → len ≤ trace_limit → l.sum ≡ need + r * len → l.len ≡ len → LineRange l
+pub line_range : (need r len : ℕ) (l : Line) → need ≤ demand_limit * trace_limit → r ≤ rate_limit → len ≤ trace_limit
+    → l.sum ≡ need + r * len → l.len ≡ len → LineRange l
 line_range need r len l h k m e f = record { sums = omega (arith, e, mul-le-mul k m); few = omega (arith, f) }
 
 -- The products of a line fit.
@@ -74,7 +78,8 @@ pub record Fit (t : Tariff) (f : Factor) (l : Line) (dear : ℕ) : Type 0 where
   pub sums : f.q * l.sum ≤ parts_limit * ((demand_limit + rate_limit) * trace_limit)
   pub lens : f.q * l.len ≤ parts_limit * trace_limit
 
-pub fit : {t : Tariff} {f : Factor} {l : Line} {dear : ℕ} → TariffRange t → FactorRange f → LineRange l → dear ≤ charge_end → Fit t f l dear
+pub fit : {t : Tariff} {f : Factor} {l : Line} {dear : ℕ} → TariffRange t → FactorRange f → LineRange l
+    → dear ≤ charge_end → Fit t f l dear
 fit h k r m =
     let part = le_trans k.part k.few in
     let deep = mul-le-mul h.depth_prices k.few in

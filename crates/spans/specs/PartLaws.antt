@@ -9,7 +9,7 @@ use Rattle.std.proofs.lemmas.Bool.{eqb-false}
 use Rattle.terms.specs.Limits.{demand_limit, rate_limit, trace_limit}
 use Rattle.bucket.specs.Trace.{Demands}
 use Rattle.depth.specs.declared.walk.Walk.{Walk}
-use Rattle.depth.specs.Walk.{started, pushed, walk_of}
+use Rattle.depth.specs.Walk.{pushed, walk_of}
 use Rattle.depth.specs.WalkLaws.{walk_next}
 use Rattle.depth.specs.WalkRanges.{WalkRange, range_started, range_pushed, range_more}
 use Rattle.spans.specs.declared.parts.Parts.{Parts}
@@ -23,7 +23,8 @@ grown_need a b m e true h = let l = ltb-true a m h in (omega arith, l)
 grown_need a b m e false h = let l = ltb-false a m h in omega (arith, le-max_left a b)
 
 -- A need that is the greater of two, with the length of the part that sets it, at rates r and x.
-either_below : (r x a b m len new n c d o : ℕ) → m ≡ max a b → n ≡ cond (ltb a m) new len → o ≡ max c d → a + r * len ≤ c + x * len
+either_below : (r x a b m len new n c d o : ℕ) → m ≡ max a b → n ≡ cond (ltb a m) new len → o ≡ max c d
+    → a + r * len ≤ c + x * len
     → (0 < b → b + r * new ≤ d + x * new) → m + r * n ≤ o + x * n
 either_below r x a b m len new n c d o e f g old fresh = go (ltb a m) refl f (grown_need a b m e (ltb a m) refl)
   where
@@ -35,7 +36,8 @@ either_below r x a b m len new n c d o e f g old fresh = go (ltb a m) refl f (gr
 
 module _ (r x d : ℕ) (s n : Parts) (w : Walk) (g : Grown r d s n) (k : Below r s x w) where
   -- Before the fields are put together: the opening of all periods walked, and the stretch that ends here.
-  whole_below : 0 < s.walk.sum + d - (s.walk.gained + r) → s.walk.sum + d - (s.walk.gained + r) + r * n.periods ≤ w.sum + d - (w.gained + x) + x * n.periods
+  whole_below : 0 < s.walk.sum + d - (s.walk.gained + r)
+      → s.walk.sum + d - (s.walk.gained + r) + r * n.periods ≤ w.sum + d - (w.gained + x) + x * n.periods
   whole_below z =
       let p : n.periods ≡ s.periods + 1 = g.periods in
       rw p (omega (arith, k.sums, k.gains, k.gains_there))
@@ -47,7 +49,8 @@ module _ (r x d : ℕ) (s n : Parts) (w : Walk) (g : Grown r d s n) (k : Below r
   ending-below : n.walk.ending + r * n.ending ≤ w.ending + d - x + x * n.ending
   ending-below = go (eqb n.walk.ending 0) refl g.ending
     where
-      go : (t : Bool) → eqb n.walk.ending 0 ≡ t → n.ending ≡ cond t 0 (s.ending + 1) → n.walk.ending + r * n.ending ≤ w.ending + d - x + x * n.ending
+      go : (t : Bool) → eqb n.walk.ending 0 ≡ t → n.ending ≡ cond t 0 (s.ending + 1)
+          → n.walk.ending + r * n.ending ≤ w.ending + d - x + x * n.ending
       go true h f =
           let z : n.walk.ending ≡ 0 = eqb-true _ _ h in
           subst (λ (y : ℕ). n.walk.ending + r * y ≤ w.ending + d - x + x * y) (sym f) (omega (arith, z))
@@ -62,7 +65,8 @@ module _ (r x d : ℕ) (s n : Parts) (w : Walk) (g : Grown r d s n) (k : Below r
         sums = ap (λ (y : ℕ). y + d) k.sums ∙ sym (ap (λ (v : Walk). v.sum) g.walk);
         gains = ap (λ (v : Walk). v.gained) g.walk ∙ more r k.gains;
         gains_there = more x k.gains_there;
-        opening = either_below r x _ _ _ _ _ _ _ _ _ (ap (λ (v : Walk). v.opening) g.walk) g.opening refl k.opening whole_below;
+        opening =
+            either_below r x _ _ _ _ _ _ _ _ _ (ap (λ (v : Walk). v.opening) g.walk) g.opening refl k.opening whole_below;
         ending = ending-below;
         stretch =
             either_below r x _ _ _ _ _ _ _ _ _ (ap (λ (v : Walk). v.stretch) g.walk) g.stretch refl k.stretch
@@ -91,16 +95,20 @@ either_le : (b : Bool) (x y n m : ℕ) → m ≡ cond b x y → x ≤ n → y �
 either_le true x y n m e h k = omega (arith, e)
 either_le false x y n m e h k = omega (arith, e)
 
-range_grown : (r d : ℕ) {i : ℕ} {s n : Parts} → r ≤ rate_limit → d ≤ demand_limit → PartsRange i s → Grown r d s n → PartsRange (i + 1) n
+range_grown : (r d : ℕ) {i : ℕ} {s n : Parts} → r ≤ rate_limit → d ≤ demand_limit → PartsRange i s → Grown r d s n
+    → PartsRange (i + 1) n
 range_grown r d {i} {s} {n} hr hd k g =
     let a : n.periods ≤ i + 1 = omega (arith, g.periods, k.all) in
-    let e : n.ending ≤ i + 1 = either_le (eqb n.walk.ending 0) 0 (s.ending + 1) (i + 1) _ g.ending (omega arith) (omega (arith, k.endings)) in
+    let e : n.ending ≤ i + 1 =
+    either_le (eqb n.walk.ending 0) 0 (s.ending + 1) (i + 1) _ g.ending (omega arith) (omega (arith, k.endings)) in
     record {
       walks = subst (WalkRange (i + 1)) (sym g.walk) (range_pushed r d k.walks hr hd);
       all = a;
-      openings = either_le (ltb s.walk.opening n.walk.opening) n.periods s.opening (i + 1) _ g.opening a (omega (arith, k.openings));
+      openings =
+          either_le (ltb s.walk.opening n.walk.opening) n.periods s.opening (i + 1) _ g.opening a (omega (arith, k.openings));
       endings = e;
-      stretches = either_le (ltb s.walk.stretch n.walk.stretch) n.ending s.stretch (i + 1) _ g.stretch e (omega (arith, k.stretches));
+      stretches =
+          either_le (ltb s.walk.stretch n.walk.stretch) n.ending s.stretch (i + 1) _ g.stretch e (omega (arith, k.stretches));
     }
 
 -- ---- A walk through a trace
@@ -118,5 +126,6 @@ module _ (r : ℕ) (ds : List ℕ) (i : ℕ) (s : Parts) (k : PartsAt r ds i s) 
       record {
         ranges = range_grown r (get_or ds i 0) hr (h.each i) k.ranges g;
         walked = g.walk ∙ ap (λ (w : Walk). pushed r w (get_or ds i 0)) k.walked ∙ sym (walk_next r ds i l);
-        below = λ x. subst (Below r n x) (sym (walk_next x ds i l)) (grown_below r x (get_or ds i 0) s n (walk_of x (take i ds)) g (k.below x));
+        below =
+            λ x. subst (Below r n x) (sym (walk_next x ds i l)) (grown_below r x (get_or ds i 0) s n (walk_of x (take i ds)) g (k.below x));
       }

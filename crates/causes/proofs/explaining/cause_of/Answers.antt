@@ -84,10 +84,12 @@ opening_end-requires c =
 
 pub overflow_cast-result : goal.overflow_cast-result
 overflow_cast-result c =
-    omega (arith, opening-fits _ _ _ _ c.requires c.if-depth-eq0.false c.starting_tokens-tokens.ensures c.in-Some.ensures)
+    omega
+    (arith, opening-fits _ _ _ _ c.requires c.if-depth-eq0.false c.starting_tokens-tokens.ensures c.in-Some.ensures)
 
 pub returns-in-Some : goal.returns-in-Some
-returns-in-Some c = opening-named _ _ _ _ c.requires c.if-depth-eq0.false c.starting_tokens-tokens.ensures c.in-Some.ensures
+returns-in-Some c =
+    opening-named _ _ _ _ c.requires c.if-depth-eq0.false c.starting_tokens-tokens.ensures c.in-Some.ensures
 
 pub stretch_end-last-requires : goal.stretch_end-last-requires
 stretch_end-last-requires c =
@@ -111,7 +113,8 @@ pub overflow_cast-result-2 : goal.overflow_cast-result-2
 overflow_cast-result-2 c =
     let y = c.starting_tokens-tokens.ensures in
     let l = c.stretch_end-last.ensures in
-    omega (arith, first-fits _ _ _ _ c.requires c.if-depth-eq0.false y c.in_default.ensures l c.stretch_start-first.ensures)
+    omega
+    (arith, first-fits _ _ _ _ c.requires c.if-depth-eq0.false y c.in_default.ensures l c.stretch_start-first.ensures)
 
 pub overflow_cast-result-3 : goal.overflow_cast-result-3
 overflow_cast-result-3 c =

@@ -21,7 +21,13 @@ use Rattle.causes.proofs.searches.opening_end.Goals as goal
 
 start : (r y : ℕ) (ds : List ℕ) → Opened r y ds 0 y 0
 unfolding total
-start r y ds = record { inside = omega arith; sums = refl; gains = omega arith; so_far = ap (λ (n : ℕ). first_from (λ v. short r y ds 1 v) n 1) (sym (sub-zero (length ds))) }
+start r y ds =
+    record {
+      inside = omega arith;
+      sums = refl;
+      gains = omega arith;
+      so_far = ap (λ (n : ℕ). first_from (λ v. short r y ds 1 v) n 1) (sym (sub-zero (length ds)));
+    }
 
 module _ {r y : ℕ} {ds : List ℕ} {demands tokens i : ℕ} (k : Opened r y ds demands tokens i) (l : i < length ds) where
   abbrev demands' : ℕ
@@ -43,13 +49,19 @@ module _ {r y : ℕ} {ds : List ℕ} {demands tokens i : ℕ} (k : Opened r y ds
 
   -- both sums fit
   demands_fit : Demands ds → length ds ≤ trace_limit → demands' ≤ demand_limit * trace_limit
-  demands_fit h n = omega (arith, sums', demand_le (take (i + 1) ds) (demands-take (i + 1) ds h), length-take-le (i + 1) ds (omega arith))
+  demands_fit h n =
+      omega
+      (arith, sums', demand_le (take (i + 1) ds) (demands-take (i + 1) ds h), length-take-le (i + 1) ds (omega arith))
 
-  tokens-fit : r ≤ rate_limit → y ≤ depth_limit → length ds ≤ trace_limit → tokens' ≤ depth_limit + rate_limit * trace_limit
+  tokens-fit : r ≤ rate_limit → y ≤ depth_limit → length ds ≤ trace_limit
+      → tokens' ≤ depth_limit + rate_limit * trace_limit
   tokens-fit hr hy n = let few : i + 1 ≤ trace_limit = omega arith in omega (arith, gains', mul-le-mul hr few)
 
   found : tokens' < demands' → opening_end r y ds ≡ figures (i + 1)
-  found h = k.so_far ∙ from-passed (λ v. short r y ds 1 v) (i + 1) (length ds - i) (omega arith) (sums-short r y demands' tokens' _ sums' gained h)
+  found h =
+      k.so_far
+      ∙ from-passed (λ v. short r y ds 1 v) (i + 1) (length ds - i) (omega arith)
+      (sums-short r y demands' tokens' _ sums' gained h)
 
   next : demands' ≤ tokens' → Opened r y ds demands' tokens' (i + 1)
   next h =
@@ -57,17 +69,23 @@ module _ {r y : ℕ} {ds : List ℕ} {demands tokens i : ℕ} (k : Opened r y ds
         inside = omega arith;
         sums = sums';
         gains = gains';
-        so_far = k.so_far ∙ from_failed (λ v. short r y ds 1 v) (i + 1) (length ds - i) (length ds - (i + 1)) (omega arith) (sums-enough r y demands' tokens' _ sums' gained h);
+        so_far =
+            k.so_far
+            ∙ from_failed (λ v. short r y ds 1 v) (i + 1) (length ds - i) (length ds - (i + 1)) (omega arith)
+            (sums-enough r y demands' tokens' _ sums' gained h);
       }
 
-end : {r y : ℕ} {ds : List ℕ} {demands tokens i : ℕ} → Opened r y ds demands tokens i → length ds ≤ i → opening_end r y ds ≡ refused 7
+end : {r y : ℕ} {ds : List ℕ} {demands tokens i : ℕ} → Opened r y ds demands tokens i → length ds ≤ i
+    → opening_end r y ds ≡ refused 7
 end {r} {y} {ds} {i = i} k l = k.so_far ∙ from_none (λ v. short r y ds 1 v) (i + 1) (length ds - i) (omega arith)
 
 pub loop-i-init : goal.loop-i-init
 loop-i-init c = start _ _ _
 
 pub overflow_add-demands : goal.overflow_add-demands
-overflow_add-demands c = omega (arith, demands_fit c.loop-i.invariant c.loop-i-test.true (record { each = λ i. omega (arith, c.type_inv.trace i) }) c.requires.periods_range.few)
+overflow_add-demands c =
+    omega
+    (arith, demands_fit c.loop-i.invariant c.loop-i-test.true (record { each = λ i. omega (arith, c.type_inv.trace i) }) c.requires.periods_range.few)
 
 pub returns-then-tokens-demands : goal.returns-then-tokens-demands
 returns-then-tokens-demands c = sym (found c.loop-i.invariant c.loop-i-test.true c.if-tokens-demands.true)

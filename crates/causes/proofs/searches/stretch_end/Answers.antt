@@ -20,7 +20,14 @@ use Rattle.causes.proofs.searches.stretch_end.Goals as goal
 
 start : (r C : ℕ) (ds : List ℕ) → 1 ≤ length ds → Ended r C ds 0 1
 unfolding walk_of
-start r C ds h = record { some = omega arith; inside = h; ends = sym (ap (λ (es : List ℕ). (walk_of r es).ending) (slice_empty 1 ds)); enough = omega arith; so_far = refl }
+start r C ds h =
+    record {
+      some = omega arith;
+      inside = h;
+      ends = sym (ap (λ (es : List ℕ). (walk_of r es).ending) (slice_empty 1 ds));
+      enough = omega arith;
+      so_far = refl;
+    }
 
 module _ {r C : ℕ} {ds : List ℕ} {need last : ℕ} (k : Ended r C ds need last) (l : last < length ds) where
   abbrev d : ℕ
@@ -33,7 +40,9 @@ module _ {r C : ℕ} {ds : List ℕ} {need last : ℕ} (k : Ended r C ds need la
 
   ends' : (new : ℕ) → new ≡ need + d - r → new ≡ (walk_of r (slice 1 (last + 1) ds)).ending
   unfolding pushed
-  ends' new e = e ∙ ap (λ (n : ℕ). n + d - r) k.ends ∙ sym (ap (λ (w : Walk). w.ending) (ap (walk_of r) more ∙ walk_more r (slice 1 last ds) d))
+  ends' new e =
+      e ∙ ap (λ (n : ℕ). n + d - r) k.ends
+      ∙ sym (ap (λ (w : Walk). w.ending) (ap (walk_of r) more ∙ walk_more r (slice 1 last ds) d))
 
   abbrev test : ℕ → Bool
   test v = is_found (stretch_start r C ds v)
@@ -41,7 +50,8 @@ module _ {r C : ℕ} {ds : List ℕ} {need last : ℕ} (k : Ended r C ds need la
   found : (new : ℕ) → new ≡ need + d - r → C < new → stretch_end r C ds ≡ figures (last + 1)
   found new e h =
       let t = stretch-found r C ds (last + 1) (omega arith) in
-      k.so_far ∙ from-passed test (last + 1) (length ds - last) (omega arith) (t ∙ lt-ltb C _ (omega (arith, ends' new e)))
+      k.so_far ∙ from-passed test (last + 1) (length ds - last) (omega arith)
+      (t ∙ lt-ltb C _ (omega (arith, ends' new e)))
 
   next : (new : ℕ) → new ≡ need + d - r → new ≤ C → Ended r C ds new (last + 1)
   next new e h =
@@ -51,18 +61,25 @@ module _ {r C : ℕ} {ds : List ℕ} {need last : ℕ} (k : Ended r C ds need la
         inside = omega arith;
         ends = ends' new e;
         enough = h;
-        so_far = k.so_far ∙ from_failed test (last + 1) (length ds - last) (length ds - (last + 1)) (omega arith) (t ∙ le-ltb C _ (omega (arith, ends' new e)));
+        so_far =
+            k.so_far
+            ∙ from_failed test (last + 1) (length ds - last) (length ds - (last + 1)) (omega arith)
+            (t ∙ le-ltb C _ (omega (arith, ends' new e)));
       }
 
-end : {r C : ℕ} {ds : List ℕ} {need last : ℕ} → Ended r C ds need last → length ds ≤ last → length ds ≡ figure_or (stretch_end r C ds) (length ds)
+end : {r C : ℕ} {ds : List ℕ} {need last : ℕ} → Ended r C ds need last → length ds ≤ last
+    → length ds ≡ figure_or (stretch_end r C ds) (length ds)
 end {r} {C} {ds} {last = last} k l =
-    sym (ap (λ (a : Answer ℕ). figure_or a (length ds)) (k.so_far ∙ from_none (λ v. is_found (stretch_start r C ds v)) (last + 1) (length ds - last) (omega arith)))
+    sym
+    (ap (λ (a : Answer ℕ). figure_or a (length ds)) (k.so_far ∙ from_none (λ v. is_found (stretch_start r C ds v)) (last + 1) (length ds - last) (omega arith)))
 
 pub loop-i-init : goal.loop-i-init
 loop-i-init c = start _ _ _ c.requires.periods_range.some
 
 pub returns-then-bucket-need : goal.returns-then-bucket-need
-returns-then-bucket-need c = sym (ap (λ (a : Answer ℕ). figure_or a (length c.args.trace.now)) (found c.loop-i.invariant c.loop-i-test.true _ c.saturating_sub-need.ensures c.if-bucket-need.true))
+returns-then-bucket-need c =
+    sym
+    (ap (λ (a : Answer ℕ). figure_or a (length c.args.trace.now)) (found c.loop-i.invariant c.loop-i-test.true _ c.saturating_sub-need.ensures c.if-bucket-need.true))
 
 pub loop-i-preserved : goal.loop-i-preserved
 loop-i-preserved c = next c.loop-i.invariant c.loop-i-test.true _ c.saturating_sub-need.ensures c.if-bucket-need.false

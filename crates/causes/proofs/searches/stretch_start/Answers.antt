@@ -30,7 +30,8 @@ start r C ds v h =
       inside = omega arith;
       sums = sym (ap demand_of (slice_empty v ds));
       gains = rw (z, mul-zero r) (omega arith);
-      so_far = sym (ap (λ (a : Answer ℕ). figure_or a v) (from_none (λ n. short r C ds n v) (v + 1) (v - v) (omega arith)));
+      so_far =
+          sym (ap (λ (a : Answer ℕ). figure_or a v) (from_none (λ n. short r C ds n v) (v + 1) (v - v) (omega arith)));
     }
 
 module _ {r C : ℕ} {ds : List ℕ} {v first demands tokens u : ℕ} (k : Started r C ds v first demands tokens u) (l : 1 < u) (n : v ≤ length ds) where
@@ -48,7 +49,8 @@ module _ {r C : ℕ} {ds : List ℕ} {v first demands tokens u : ℕ} (k : Start
   unfolding total
   sums' =
       let e : suc j ≡ u = omega arith in
-      let f : demand_of (slice j v ds) ≡ get_or ds j 0 + demand_of (slice (suc j) v ds) = ap demand_of (slice-cons j v ds 0 (omega (arith, k.inside)) n) in
+      let f : demand_of (slice j v ds) ≡ get_or ds j 0 + demand_of (slice (suc j) v ds) =
+      ap demand_of (slice-cons j v ds 0 (omega (arith, k.inside)) n) in
       omega (arith, k.sums, f, ap (λ (m : ℕ). demand_of (slice m v ds)) e)
 
   gains' : tokens' ≡ C + r * (v - j)
@@ -61,9 +63,11 @@ module _ {r C : ℕ} {ds : List ℕ} {v first demands tokens u : ℕ} (k : Start
 
   -- both sums fit
   demands_fit : Demands ds → length ds ≤ trace_limit → demands' ≤ demand_limit * trace_limit
-  demands_fit h m = omega (arith, sums', demand_le (slice j v ds) (demands-drop j _ (demands-take v ds h)), length-slice j v ds n)
+  demands_fit h m =
+      omega (arith, sums', demand_le (slice j v ds) (demands-drop j _ (demands-take v ds h)), length-slice j v ds n)
 
-  tokens-fit : r ≤ rate_limit → C ≤ depth_limit → length ds ≤ trace_limit → tokens' ≤ depth_limit + rate_limit * trace_limit
+  tokens-fit : r ≤ rate_limit → C ≤ depth_limit → length ds ≤ trace_limit
+      → tokens' ≤ depth_limit + rate_limit * trace_limit
   tokens-fit hr hC m = let few : v - j ≤ trace_limit = omega arith in omega (arith, gains', mul-le-mul hr few)
 
   -- the search from period u on
@@ -90,7 +94,8 @@ module _ {r C : ℕ} {ds : List ℕ} {v first demands tokens u : ℕ} (k : Start
       let g : u + 1 ≡ j + 1 + 1 = omega arith in
       next first (k.so_far ∙ rw (f, g))
 
-end : {r C : ℕ} {ds : List ℕ} {v first demands tokens u : ℕ} → Started r C ds v first demands tokens u → u ≤ 1 → first ≡ figure_or (stretch_start r C ds v) v
+end : {r C : ℕ} {ds : List ℕ} {v first demands tokens u : ℕ} → Started r C ds v first demands tokens u → u ≤ 1
+    → first ≡ figure_or (stretch_start r C ds v) v
 end {r} {C} {ds} {v} {u = u} k l =
     let e : u ≡ 1 = omega (arith, k.some) in
     k.so_far ∙ ap (λ (m : ℕ). figure_or (first_from (λ n. short r C ds n v) (v - m) (m + 1)) v) e

@@ -9,7 +9,12 @@ use Rattle.series.specs.SuffixLaws.{kept_start}
 use Rattle.series.proofs.planner.cheapest.Goals as goal
 
 pub cut_suffixes-requires : goal.cut_suffixes-requires
-cut_suffixes-requires c = record { trace_len_bound = c.requires.periods_range.few; tariff_range = c.requires.tariff_range; kept = kept_start _ _ c.requires.periods_range.few }
+cut_suffixes-requires c =
+    record {
+      trace_len_bound = c.requires.periods_range.few;
+      tariff_range = c.requires.tariff_range;
+      kept = kept_start _ _ c.requires.periods_range.few;
+    }
 
 pub returns-then-cost-eq-UNPRICED : goal.returns-then-cost-eq-UNPRICED
 returns-then-cost-eq-UNPRICED c =

@@ -30,8 +30,10 @@ module _ (t : Tariff) (ds costs₀ counts₀ firsts₀ : List ℕ) (next : ℕ) 
       let kept = kept-left t ds (next - 1) (omega (arith, k.inside)) costs counts firsts kept_next in
       rw (part_to_end ds (next - 1), add-one (next - 1)) kept
 
-  step : (c : Choice) → c.outline ≡ outline_of t (cheapest_cut t (take (length ds - (next - 1)) (drop (next - 1) ds))) → c.rate.0 ≤ t.rate_cap.0 → let o = c.outline in
-      Keeping t ds costs₀ counts₀ firsts₀ (next - 1) (set costs (next - 1) o.cost) (set counts (next - 1) o.buckets) (set firsts (next - 1) o.first) c.rate
+  step : (c : Choice) → c.outline ≡ outline_of t (cheapest_cut t (take (length ds - (next - 1)) (drop (next - 1) ds))) → c.rate.0 ≤ t.rate_cap.0 → let o =
+      c.outline in
+      Keeping t ds costs₀ counts₀ firsts₀ (next - 1) (set costs (next - 1) o.cost) (set counts (next - 1) o.buckets)
+      (set firsts (next - 1) o.first) c.rate
   step c e slow =
       let o = c.outline in
       record {
@@ -51,7 +53,14 @@ few-left ds a few = omega (arith, length-take (length ds - a) (drop a ds))
 pub best_first-best-requires : goal.best_first-best-requires
 best_first-best-requires c =
     let k = c.loop-start.invariant in
-    record { begin_bound = k.rate; far = far_all; rests = left-rests _ c.requires.tariff_range _ (few-left c.args.trace.now (c.loop-start.start - 1) c.requires.trace_len_bound) _ _ (left _ _ _ _ _ _ _ _ _ _ k c.loop-start-test.true) }
+    record {
+      begin_bound = k.rate;
+      far = far_all;
+      rests =
+          left-rests _ c.requires.tariff_range _
+          (few-left c.args.trace.now (c.loop-start.start - 1) c.requires.trace_len_bound) _ _
+          (left _ _ _ _ _ _ _ _ _ _ k c.loop-start-test.true);
+    }
 
 pub loop-start-preserved : goal.loop-start-preserved
 loop-start-preserved c =

@@ -17,4 +17,5 @@ pub record Keeping (t : Tariff) (ds costs₀ counts₀ firsts₀ : List ℕ) (ne
   pub kept : Kept t ds next costs counts firsts
 
 abbrev pub invariant-loop-start : goal.invariant-loop-start
-invariant-loop-start l = Keeping l.tariff l.trace l.initial.costs l.initial.counts l.initial.firsts l.start l.costs l.counts l.firsts l.begin
+invariant-loop-start l =
+    Keeping l.tariff l.trace l.initial.costs l.initial.counts l.initial.firsts l.start l.costs l.counts l.firsts l.begin

@@ -65,7 +65,8 @@ with_cost-here-requires c =
       tariff_range = c.requires.tariff_range;
       periods_le_trace_limit = c.requires.periods_range.few;
       bucket_range =
-          deep _ _ c.requires.periods_range c.requires.tariff_range _ _ c.rates_to_weigh-end.ensures c.loop-next-test.true
+          deep _ _ c.requires.periods_range c.requires.tariff_range _ _ c.rates_to_weigh-end.ensures
+          c.loop-next-test.true
           c.loop-next.invariant c.in-Ok.ensures;
     }
 

@@ -1,9 +1,6 @@
 -- A depth that serves is allowed by the rate's own price and by the line of each need.
-use native.Mathlib.Omega.{arith}
-use native.Mathlib.Nat.{le_trans}
-use borrow.Author.Rules.{rules}
-use Rattle.spans.specs.NarrowLaws.{line_range, serving_rate, serving_stretch, serving_opening}
-use Rattle.spans.specs.SpanLaws.{kept_then, kept_if, kept_range}
+use Rattle.spans.specs.NarrowLaws.{serving_rate, serving_stretch, serving_opening}
+use Rattle.spans.specs.SpanLaws.{kept_then, kept_if}
 use Rattle.spans.proofs.narrow.narrow.Goals as goal
 
 pub returns : goal.returns

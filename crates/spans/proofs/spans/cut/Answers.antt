@@ -1,5 +1,5 @@
+-- A line with two slopes is one with their difference.
 use Rattle.spans.specs.SpanLaws.{cut_rising, cut_falling}
-use borrow.Author.Rules.{rules}
 use Rattle.spans.proofs.spans.cut.Goals as goal
 
 pub returns-then-a-d : goal.returns-then-a-d
