@@ -11,17 +11,16 @@ use Rattle.terms.specs.RangeRules.{PeriodsRange, TariffRange}
 use Rattle.terms.specs.RangeLaws.{periods_ok_lem, tariff_ok_lem}
 use Rattle.single.specs.Single.{single_of}
 use Rattle.series.specs.RunLaws.{best-runs, best_of_none}
-use Rattle.series.specs.Series.{run_cost, record_for, run_record, cheapest_cut}
+use Rattle.series.specs.Series.{run_cost, record_for, run_record, cheapest_cut, plan_of}
 use Rattle.record_list.specs.Held.{no_record}
 use Rattle.terms.specs.Records.{Cutting, run_length}
 use Rattle.series.specs.SeriesLaws.{record_whole, series-is}
 use Rattle.first_runs.specs.Outline.{unpriced}
 use Rattle.series.specs.Outline.{outline_of}
-use Rattle.series.specs.SuffixLaws.{Kept, outline_from, outline_none, outline_found}
+use Rattle.series.specs.SuffixLaws.{Kept, outline_from, outline_none, outline_found, outline_plan}
 
 -- The record of a run is what the single call finds for it.
-pub record_single : (t : Tariff) (run : List ℕ) → TariffRange t → PeriodsRange (length run)
-    → run_record t run ≡ record_for (length run) (single_of t run)
+pub record_single : (t : Tariff) (run : List ℕ) → TariffRange t → PeriodsRange (length run) → run_record t run ≡ record_for (length run) (single_of t run)
 unfolding single_of
 record_single t run h few = rw (periods_ok_lem _ few, tariff_ok_lem t h) refl
 
@@ -52,8 +51,7 @@ module _ (t : Tariff) (ds : List ℕ) (all : Cutting) (start k : ℕ) (l : start
   next_run =
       let x = get_or all k no_record in
       let f = e ∙ ap figures (drop-cons all k no_record some_left) in
-      let r =
-      best-runs run_length (run_cost t) (run_record t) (record_whole t) (drop start ds) x (drop (suc k) all) f in
+      let r = best-runs run_length (run_cost t) (run_record t) (record_whole t) (drop start ds) x (drop (suc k) all) f in
       record {
         more = some_left;
         some = r.some;
@@ -76,10 +74,18 @@ pub record Firsts (t : Tariff) (ds firsts : List ℕ) : Type 0 where
 module _ (t : Tariff) (h : TariffRange t) (ds : List ℕ) (few : length ds ≤ trace_limit) (costs counts firsts : List ℕ) (k : Kept t ds 0 costs counts firsts) where
   -- Without a cost no cutting is carried.
   pub kept_none : get_or costs 0 0 ≡ unpriced → cheapest_cut t ds ≡ refused 7
-  kept_none e =
-      outline_none t h ds few (cheapest_cut t ds) (series-is t ds) (sym (k.cost.at 0 (omega arith) (omega arith)) ∙ e)
+  kept_none e = outline_none t h ds few (cheapest_cut t ds) (series-is t ds) (sym (k.cost.at 0 (omega arith) (omega arith)) ∙ e)
 
   -- With one its runs can be recorded, and its figures are the plan's.
   module _ (n : get_or costs 0 0 ≡ unpriced → ⊥) where
     found : (xs : Cutting) × (cheapest_cut t ds ≡ figures xs)
     found = outline_found t (cheapest_cut t ds) (λ e. n (k.cost.at 0 (omega arith) (omega arith) ∙ e))
+
+    pub kept_firsts : Firsts t ds firsts
+    kept_firsts = record { cut = found.0; found = found.1; room = k.first.room; first = λ j l. k.first.at j (omega arith) l }
+
+    pub kept-plan : figures (record { buckets = get_or counts 0 0; cost = get_or costs 0 0 }) ≡ plan_of t (cheapest_cut t ds)
+    kept-plan =
+        ap (λ (m : ℕ). figures (record { buckets = m; cost = get_or costs 0 0 })) (k.count.at 0 (omega arith) (omega arith))
+        ∙ ap (λ (m : ℕ). figures (record { buckets = (outline_from t ds 0).buckets; cost = m })) (k.cost.at 0 (omega arith) (omega arith))
+        ∙ sym (outline_plan t (cheapest_cut t ds) found.0 found.1)

@@ -5,7 +5,7 @@
 use Rattle.std.specs.Prelude.{ℕ, ◌≤◌, ◌≡◌, Bool, false, List, leb, length}
 use Rattle.terms.specs.declared.BucketRecord.{BucketRecord}
 use Rattle.terms.specs.declared.Tariff.{Tariff}
-use Rattle.terms.specs.Answer.{Answer, figures, refused, weigh, on_figures}
+use Rattle.terms.specs.Answer.{Answer, weigh, on_figures}
 use Rattle.terms.specs.Ranges.{periods_ok, tariff_ok}
 use Rattle.terms.specs.Records.{Cutting, run_length, total}
 use Rattle.single.specs.declared.costs.Priced.{Priced}
@@ -60,8 +60,7 @@ cheapest_cut t = best run_length (run_cost t) (run_record t)
 
 -- 3: the trace's length; 5: the tariff; 6: a lent list with fewer entries than periods; 7: no cutting.
 unfoldable pub series_of : Tariff → ℕ → List ℕ → Answer Cutting
-series_of t room ds =
-    weigh (periods_ok (length ds)) 3 (weigh (tariff_ok t) 5 (weigh (leb (length ds) room) 6 (cheapest_cut t ds)))
+series_of t room ds = weigh (periods_ok (length ds)) 3 (weigh (tariff_ok t) 5 (weigh (leb (length ds) room) 6 (cheapest_cut t ds)))
 
 -- The figures that are answered: the number of buckets and the cost.
 abbrev pub plan_of : Tariff → Answer Cutting → Answer Plan
