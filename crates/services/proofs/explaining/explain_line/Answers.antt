@@ -3,22 +3,14 @@ use Prim.Native.Nat.{◌≤◌}
 use native.Mathlib.Omega.{arith}
 use mathlib.Core.Path.{◌≡◌, sym, ap, ◌∙◌}
 use lib.ListN.{length}
-use Rattle.std.proofs.lemmas.Result.{err_from_is_err_and}
 use Rattle.terms.specs.Answer.{figures}
 use Rattle.causes.specs.Cause.{explain_says, explained_says}
-use Rattle.encoding.specs.FillLaws.{refused_fills, found_fills}
+use Rattle.encoding.specs.FillLaws.{found_fills}
 use Rattle.text.specs.FittedLaws.{zeros, ready_count, ready_inside, ready_fills}
 use Rattle.text.specs.LineLaws.{longest_explained}
 use Rattle.services.specs.ServiceLaws.{explained-line-short}
 use Rattle.services.specs.Services.{explain_for, explained_line}
-use borrow.Author.Rules.{rules}
 use Rattle.services.proofs.explaining.explain_line.Goals as goal
-
-pub returns-in_err-explained : goal.returns-in_err-explained
-returns-in_err-explained c =
-    let p = err_from_is_err_and c.from_residual.result c.from_residual.ensures.1 in
-    let all = refused_fills _ _ _ _ (sym c.in_err-explained.ensures) in
-    rw (p.1, p.2) (record { result_value = all.0; text_after = all.1 })
 
 pub put_explained-length-requires : goal.put_explained-length-requires
 put_explained-length-requires c =

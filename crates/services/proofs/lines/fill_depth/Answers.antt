@@ -3,20 +3,12 @@ use Prim.Native.Nat.{◌≤◌}
 use native.Mathlib.Omega.{arith}
 use mathlib.Core.Path.{ap}
 use lib.ListN.{length}
-use Rattle.std.proofs.lemmas.Result.{err_from_is_err_and}
 use Rattle.depth.specs.Depth.{depth_says}
-use Rattle.encoding.specs.FillLaws.{refused_fills, found_fills}
+use Rattle.encoding.specs.FillLaws.{found_fills}
 use Rattle.text.specs.FittedLaws.{zeros, ready_count, ready_inside, ready_fills}
 use Rattle.text.specs.Lines.{depth_line}
 use Rattle.text.specs.LineLaws.{depth-short, longest_depth}
-use borrow.Author.Rules.{rules}
 use Rattle.services.proofs.lines.fill_depth.Goals as goal
-
-pub returns-in_err-depth : goal.returns-in_err-depth
-returns-in_err-depth c =
-    let p = err_from_is_err_and c.from_residual.result c.from_residual.ensures.1 in
-    let all = refused_fills _ _ _ _ (ap depth_says c.in_err-depth.was) in
-    rw (p.1, p.2) (record { result_value = all.0; text_after = all.1 })
 
 pub put_depth-length-requires : goal.put_depth-length-requires
 put_depth-length-requires c =

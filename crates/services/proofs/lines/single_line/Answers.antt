@@ -3,23 +3,15 @@ use Prim.Native.Nat.{◌≤◌}
 use native.Mathlib.Omega.{arith}
 use mathlib.Core.Path.{◌≡◌, sym, ap, ◌∙◌}
 use lib.ListN.{length}
-use Rattle.std.proofs.lemmas.Result.{err_from_is_err_and}
 use Rattle.terms.specs.Answer.{figures}
 use Rattle.terms.specs.Refusals.{says}
-use Rattle.encoding.specs.FillLaws.{refused_fills, found_fills}
+use Rattle.encoding.specs.FillLaws.{found_fills}
 use Rattle.text.specs.FittedLaws.{zeros, ready_count, ready_inside, ready_fills}
 use Rattle.text.specs.Lines.{single_line}
 use Rattle.text.specs.LineLaws.{longest_single}
 use Rattle.services.specs.Services.{single_for}
 use Rattle.services.specs.ServiceLaws.{single_line-short}
-use borrow.Author.Rules.{rules}
 use Rattle.services.proofs.lines.single_line.Goals as goal
-
-pub returns-in_err-priced : goal.returns-in_err-priced
-returns-in_err-priced c =
-    let p = err_from_is_err_and c.from_residual.result c.from_residual.ensures.1 in
-    let all = refused_fills _ _ _ _ (sym c.in_err-priced.ensures) in
-    rw (p.1, p.2) (record { result_value = all.0; text_after = all.1 })
 
 pub put_single_line-length-requires : goal.put_single_line-length-requires
 put_single_line-length-requires c =

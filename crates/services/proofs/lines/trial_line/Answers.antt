@@ -7,21 +7,13 @@ use lib.Signed.{nat_abs-le}
 use mir.Syntax.{w64}
 use mir.Val.{SFits}
 use mir.Facts.{to_z-of_z}
-use Rattle.std.proofs.lemmas.Result.{err_from_is_err_and}
 use Rattle.terms.specs.Refusals.{says}
 use Rattle.bucket.specs.declared.trials.TrialFigures.{TrialFigures}
-use Rattle.encoding.specs.FillLaws.{refused_fills, found_fills}
+use Rattle.encoding.specs.FillLaws.{found_fills}
 use Rattle.text.specs.FittedLaws.{zeros, ready_count, ready_inside, ready_fills}
 use Rattle.text.specs.Lines.{trial_line}
 use Rattle.text.specs.LineLaws.{longest_trial, trial_short}
-use borrow.Author.Rules.{rules}
 use Rattle.services.proofs.lines.trial_line.Goals as goal
-
-pub returns-in_err-figures : goal.returns-in_err-figures
-returns-in_err-figures c =
-    let p = err_from_is_err_and c.from_residual.result c.from_residual.ensures.1 in
-    let all = refused_fills _ _ _ _ (sym c.in_err-figures.ensures) in
-    rw (p.1, p.2) (record { result_value = all.0; text_after = all.1 })
 
 pub put_trial_line-length-requires : goal.put_trial_line-length-requires
 put_trial_line-length-requires c =
