@@ -14,16 +14,15 @@ use Rattle.plan_file.specs.RecordLaws.{RecordsRange}
 use Rattle.checking.specs.Check.{compared, check_of}
 use Rattle.checking.specs.WeighLaws.{Weighable}
 
-module _ (order plan : List ℕ) where
-  module _ (x : Ordered) (e : figures x ≡ ordered trace_limit order) where
-    pub plan_unread : (n : ℕ) → refused n ≡ read_plan trace_limit plan → refused n ≡ check_of order plan
-    plan_unread n f =
-        then_refused (plan_in plan) (compared x) (sym (f ∙ read_whole plan))
-        ∙ then_figures (ordered trace_limit order) (λ y. and_then (plan_in plan) (compared y)) (sym e)
+module _ (order plan : List ℕ) (x : Ordered) (e : figures x ≡ ordered trace_limit order) where
+  pub plan_unread : (n : ℕ) → refused n ≡ read_plan trace_limit plan → refused n ≡ check_of order plan
+  plan_unread n f =
+      then_refused (plan_in plan) (compared x) (sym (f ∙ read_whole plan))
+      ∙ then_figures (ordered trace_limit order) (λ y. and_then (plan_in plan) (compared y)) (sym e)
 
-    pub weighable : (y : Recorded) → figures y ≡ read_plan trace_limit plan → y.periods ≡ x.order.periods → Weighable x.order.tariff x.demands y
-    weighable y f h =
-        let p = is-ordered trace_limit order x (sym e) in
-        let r = ordered_range p in
-        let ranges = subst (λ (T : ℕ). RecordsRange T y.buckets) (h ∙ sym (ordered-count p)) (read_range plan y (sym (f ∙ read_whole plan))) in
-        record { tariff = r.1; periods = r.0; ranges = ranges }
+  pub weighable : (y : Recorded) → figures y ≡ read_plan trace_limit plan → y.periods ≡ x.order.periods → Weighable x.order.tariff x.demands y
+  weighable y f h =
+      let p = is-ordered trace_limit order x (sym e) in
+      let r = ordered_range p in
+      let ranges = subst (λ (T : ℕ). RecordsRange T y.buckets) (h ∙ sym (ordered-count p)) (read_range plan y (sym (f ∙ read_whole plan))) in
+      record { tariff = r.1; periods = r.0; ranges = ranges }

@@ -1,4 +1,4 @@
--- The lines of a plan's runs: stored run by run, and how long they are.
+-- The lines of a plan's runs, stored run by run.
 -- Assumes nothing.
 use Rattle.std.specs.Prelude.{ℕ, ◌+◌, ◌≤◌, ◌<◌, ◌≡◌, length, take, drop, get_or}
 use Rattle.std.proofs.Common.{arith, sym, ◌∙◌, drop-drop}
