@@ -41,11 +41,10 @@ pub fn print_runs(
     };
     let factor = x.tariff.factor;
     let mut start = 0;
-    for i in 0..ENTRIES {
+    for &record in &list {
         if x.periods as usize <= start {
             return;
         }
-        let record = list[i];
         let end = end_of(start, record.periods);
         let bucket = record.bucket;
         report::figure(rt, b"periods", start as u64 + 1);

@@ -20,7 +20,7 @@ pub fn agrees(n: u32) -> bool {
     let wanted = plain_over(rate, depth, start(p, depth), trace);
     let tried = tried_over(bucket::trial(bucket, factor, &trace));
     let metered = metered_over(meter::open_meter(bucket, factor), trace);
-    (tried == wanted) & (metered == wanted)
+    (tried == Some(wanted)) & (metered == Some(wanted))
 }
 
 // The tokens of a fresh bucket: none, half of its depth or all of it.
@@ -36,26 +36,17 @@ fn demand(n: u32) -> u16 {
     (n % 7) as u16
 }
 
-// What the trial discards; no case discards 1,000,000, which stands for a refusal and for a spare
-// whose sign does not say whether anything is discarded.
-fn tried_over(a: Result<TrialFigures, Refusal>) -> u64 {
+// What the trial discards; none on a refusal, or where the spare's sign does not say whether anything is
+// discarded.
+fn tried_over(a: Result<TrialFigures, Refusal>) -> Option<u64> {
     match a {
-        Ok(t) => {
-            if (t.spare < 0) == (0 < t.over) {
-                t.over as u64
-            } else {
-                1_000_000
-            }
-        }
-        Err(_) => 1_000_000,
+        Ok(t) if (t.spare < 0) == (0 < t.over) => Some(t.over as u64),
+        _ => None,
     }
 }
 
-fn metered_over(a: Result<Meter, Refusal>, trace: [u16; 3]) -> u64 {
-    match a {
-        Ok(m) => offered(m, trace).over,
-        Err(_) => 1_000_000,
-    }
+fn metered_over(a: Result<Meter, Refusal>, trace: [u16; 3]) -> Option<u64> {
+    a.ok().map(|m| offered(m, trace).over)
 }
 
 fn offered(m: Meter, trace: [u16; 3]) -> Meter {

@@ -8,7 +8,7 @@ mod answers;
 mod meters;
 mod million;
 
-use cases::{field, first, line, lines};
+use cases::{field, first};
 use console::{INPUT_ROOM, Program};
 
 fn main(rt: HostRuntime) {
@@ -24,8 +24,8 @@ fn main(rt: HostRuntime) {
 }
 
 fn each_case(rt: &impl Print, input: &[u8]) {
-    for n in 0..lines(input) {
-        case(rt, line(input, n));
+    for line in input.split(|&byte| byte == b'\n') {
+        case(rt, line);
     }
 }
 

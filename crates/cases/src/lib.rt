@@ -13,6 +13,6 @@ mod traces;
 pub use escapes::{PLAIN_ROOM, plain, plain_text};
 pub use files::file_of;
 pub use numbers::{figure, large, number};
-pub use parts::{field, first, line, lines};
+pub use parts::{field, first};
 pub use tariffs::{bucket_of, factor_of, tariff_of};
 pub use traces::{DEMANDS, demands, trace};

@@ -1,25 +1,10 @@
-// A text in parts: the lines of the input, the fields of a line, the words of a field.
-// How many lines an input has; an empty one behind the last newline counts.
-pub fn lines(text: &[u8]) -> usize {
-    parts(text, b'\n')
-}
-
-// How many words a field has.
+// A text in parts: the fields of a line, the words of a field.
+// How many words a field has; none where it is empty.
 pub fn words(field: &[u8]) -> usize {
-    parts(field, b' ')
-}
-
-// How many parts there are; none in no text.
-fn parts(text: &[u8], separator: u8) -> usize {
-    if text.is_empty() {
+    if field.is_empty() {
         return 0;
     }
-    text.split(|&byte| byte == separator).count()
-}
-
-// A line without its newline; the first is line 0.
-pub fn line(text: &[u8], n: usize) -> &[u8] {
-    part(text, n, b'\n')
+    field.split(|&byte| byte == b' ').count()
 }
 
 // A field of a line; the first is field 0.

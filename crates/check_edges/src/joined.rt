@@ -13,9 +13,9 @@ pub fn put_files(room: &mut [u8; JOINED_BYTES], first: &[u8], second: &[u8]) -> 
 // Stores a file from a place on, as far as there is room, and gives the place behind it.
 fn put_file(room: &mut [u8; JOINED_BYTES], from: usize, file: &[u8]) -> usize {
     let mut place = from;
-    for i in 0..file.len() {
+    for &byte in file {
         if place < JOINED_BYTES {
-            room[place] = file[i];
+            room[place] = byte;
             place += 1;
         }
     }

@@ -6,7 +6,7 @@
 mod checks;
 mod joined;
 
-use cases::{first, line, lines};
+use cases::first;
 use console::{INPUT_ROOM, Program};
 
 fn main(rt: HostRuntime) {
@@ -20,8 +20,8 @@ fn main(rt: HostRuntime) {
 }
 
 fn each_case(rt: &impl Print, input: &[u8]) {
-    for n in 0..lines(input) {
-        case(rt, line(input, n));
+    for line in input.split(|&byte| byte == b'\n') {
+        case(rt, line);
     }
 }
 

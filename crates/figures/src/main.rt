@@ -2,9 +2,7 @@
 // offered. The rows of depth, single bucket, series and trial stand in the file stdin, which says its form.
 #![tactic(auto)]
 
-use cases::{
-    DEMANDS, bucket_of, demands, factor_of, field, figure, first, line, lines, tariff_of, trace,
-};
+use cases::{DEMANDS, bucket_of, demands, factor_of, field, figure, first, tariff_of, trace};
 use console::{INPUT_ROOM, Program};
 use list_calls::series_on;
 use metqoraz::{BucketRecord, LONGEST_FIGURE, Rate, Tariff};
@@ -24,8 +22,8 @@ fn main(rt: HostRuntime) {
 }
 
 fn each_case(rt: &impl Print, input: &[u8]) {
-    for n in 0..lines(input) {
-        case(rt, line(input, n));
+    for line in input.split(|&byte| byte == b'\n') {
+        case(rt, line);
     }
 }
 

@@ -10,7 +10,7 @@ mod readings;
 mod spreads;
 mod written;
 
-use cases::{field, figure, first, line, lines};
+use cases::{field, figure, first};
 use console::{INPUT_ROOM, Program};
 
 fn main(rt: HostRuntime) {
@@ -27,8 +27,8 @@ fn main(rt: HostRuntime) {
 }
 
 fn each_case(rt: &impl Print, input: &[u8]) {
-    for n in 0..lines(input) {
-        case(rt, line(input, n));
+    for line in input.split(|&byte| byte == b'\n') {
+        case(rt, line);
     }
 }
 

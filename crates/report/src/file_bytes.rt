@@ -7,8 +7,8 @@ use terms::Refusal;
 
 // All bytes, 16 to a line.
 pub fn hex_lines(rt: &impl Print, bytes: &[u8]) {
-    for i in 0..bytes.len() {
-        hex(rt, bytes[i]);
+    for (i, &byte) in bytes.iter().enumerate() {
+        hex(rt, byte);
         if i % 16 == 15 {
             end_line(rt);
         }

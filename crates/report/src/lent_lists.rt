@@ -11,10 +11,10 @@ pub fn list(rt: &impl Print, list: [BucketRecord; ENTRIES], buckets: usize) {
 
 // The first three buckets and the last.
 fn print_buckets(rt: &impl Print, list: [BucketRecord; ENTRIES], buckets: usize) {
-    for i in 0..ENTRIES {
-        if (i < buckets) & ((i < 3) | (i + 1 == buckets)) {
+    for (i, &x) in list.iter().take(buckets).enumerate() {
+        if (i < 3) | (i + 1 == buckets) {
             words(rt, b",");
-            record(rt, list[i]);
+            record(rt, x);
         }
     }
 }

@@ -15,7 +15,7 @@ const ORDER_BYTES: usize = 54;
 pub fn edges(rt: &impl Print) {
     let trace = CASE;
     let mut file = [LENT; FILE_ROOM];
-    write_order(printed_case(), &trace, &mut file);
+    let _ = write_order(printed_case(), &trace, &mut file);
     each_byte(rt, file);
     each_length(rt, file, bucket_of(b"5 3"));
 }

@@ -17,7 +17,7 @@ fn feature_order(tariff: Tariff) -> [u8; LENT_BYTES] {
     let mut room = [0u16; DEMANDS];
     let count = trace(b"feature", &mut room);
     let mut file = [LENT; LENT_BYTES];
-    write_order(tariff, demands(&room, count), &mut file);
+    let _ = write_order(tariff, demands(&room, count), &mut file);
     file
 }
 

@@ -10,7 +10,7 @@ mod counts;
 mod places;
 mod words;
 
-use cases::{PLAIN_ROOM, field, first, line, lines, number, plain, plain_text};
+use cases::{PLAIN_ROOM, field, first, number, plain, plain_text};
 use console::{INPUT_ROOM, Program};
 use samples::file_bytes::LENT_BYTES;
 
@@ -25,8 +25,8 @@ fn main(rt: HostRuntime) {
 }
 
 fn each_case(rt: &impl Print, input: &[u8]) {
-    for n in 0..lines(input) {
-        case(rt, line(input, n));
+    for line in input.split(|&byte| byte == b'\n') {
+        case(rt, line);
     }
 }
 
