@@ -76,8 +76,11 @@ module _ (t : Tariff) (ds : List ℕ) (plan : Recorded) where
         run_is : run_ok t (take n (drop start ds)) this.bucket ≡ ok
         run_is = sym (ap (λ (ys : List ℕ). run_ok t ys this.bucket) (part-is ds start n)) ∙ sym f
 
+        pub runs_fail : ok ≡ false → runs_ok t ds records ≡ false
+        runs_fail g = decides false (run_is ∙ g)
+
         pub run_fails : ok ≡ false → false ≡ plan_ok t ds plan
-        run_fails g = sym (ap (λ (b : Bool). b && eqb plan.cost (true_cost_of t records)) (decides false (run_is ∙ g)))
+        run_fails g = sym (ap (λ (b : Bool). b && eqb plan.cost (true_cost_of t records)) (runs_fail g))
 
         pub run-weighed : ok ≡ true → (c : ℕ) → c ≡ cost_of t n this.bucket → Weighing (cost + c) (start + n) (i + 1)
         unfolding total
@@ -89,10 +92,13 @@ module _ (t : Tariff) (ds : List ℕ) (plan : Recorded) where
               left = sym (decides true (run_is ∙ g));
             }
 
-    pub all_weighed : length xs ≤ i → eqb plan.cost cost ≡ plan_ok t ds plan
+    pub runs_weighed : length xs ≤ i → (runs_ok t ds records ≡ true) × (cost ≡ true_cost_of t records)
     unfolding runs_ok total
-    all_weighed l =
+    runs_weighed l =
         let none = rest_none records i (rw e at l) in
-        let ok : runs_ok t ds records ≡ true = sym s.left ∙ ap (runs_ok t (drop start ds)) none in
-        let sum : cost ≡ true_cost_of t records = omega (arith, s.costs, ap (true_cost_of t) none) in
-        sym (ap₂ (λ (b : Bool) (c : ℕ). b && eqb plan.cost c) ok (sym sum))
+        (sym s.left ∙ ap (runs_ok t (drop start ds)) none, omega (arith, s.costs, ap (true_cost_of t) none))
+
+    pub all_weighed : length xs ≤ i → eqb plan.cost cost ≡ plan_ok t ds plan
+    all_weighed l =
+        let w = runs_weighed l in
+        sym (ap₂ (λ (b : Bool) (c : ℕ). b && eqb plan.cost c) w.0 (sym w.1))

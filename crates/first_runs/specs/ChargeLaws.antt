@@ -1,8 +1,8 @@
 -- A walk's charge is the least at every rate up to the walk's and for every longer run: a faster bucket needs no more
 -- depth, a longer run no less. And the charges at which a walk can stop.
 -- Assumes nothing.
-use Rattle.std.specs.Prelude.{ℕ, zero, suc, ◌+◌, ◌*◌, ◌≤◌, ◌<◌, max, ◌≡◌, refl, Bool, true, false, cond, ◌&&◌, List, [], ◌∷◌, eqb, leb, length, take, get_or, set}
-use Rattle.std.proofs.Common.{arith, le_of_eq, le_trans, le_antisymm, lt_of_le_of_lt, add-le-add, zero-mul, mul-le-mul_left, mul-one, sym, subst, ◌∙◌, eqb-true, le-leb}
+use Rattle.std.specs.Prelude.{ℕ, zero, suc, ◌+◌, ◌-◌, ◌*◌, ◌/◌, ◌≤◌, ◌<◌, max, ◌≡◌, refl, Bool, true, false, cond, ◌&&◌, List, [], ◌∷◌, eqb, leb, length, take, get_or, set}
+use Rattle.std.proofs.Common.{arith, le_of_eq, le_trans, le_antisymm, lt_of_le_of_lt, add-le-add, zero-mul, mul-le-mul_left, mul-one, div-lt_iff_lt-mul, div-le_self, sym, subst, ◌∙◌, eqb-true, le-leb, get_or-set_same, get_or-set_other}
 use Rattle.std.proofs.Math.Nat.{max-le, le-max_left, le-max_right}
 use Rattle.std.proofs.Math.Path.{ap}
 use Rattle.std.proofs.Math.Bool.{and-true}
@@ -11,10 +11,10 @@ use Rattle.terms.specs.declared.Tariff.{Tariff}
 use Rattle.terms.specs.Answer.{Answer, figures, refused}
 use Rattle.terms.specs.AnswerLaws.{figures-refused, same-figures}
 use Rattle.terms.specs.Bools.{and_both, both_and}
-use Rattle.terms.specs.Limits.{trace_limit}
+use Rattle.terms.specs.Limits.{rate_limit, trace_limit}
 use Rattle.terms.specs.RangeRules.{BucketRange, FactorRange, TariffRange}
 use Rattle.bucket.specs.Step.{over, held}
-use Rattle.bucket.specs.Trace.{carries, carries_from}
+use Rattle.bucket.specs.Trace.{Demands, carries, carries_from}
 use Rattle.bucket.specs.Laws.{carries_faster}
 use Rattle.depth.specs.declared.walk.Walk.{Walk}
 use Rattle.depth.specs.CeilingLaws.{ceiling-le}
@@ -22,10 +22,11 @@ use Rattle.depth.specs.Depth.{tariff_depth}
 use Rattle.depth.specs.DepthLaws.{depth-some, depth-least, depth-walk}
 use Rattle.depth.specs.Walk.{started, pushed, walk_of, ceiling, cap_meets, depth_from}
 use Rattle.depth.specs.WalkLaws.{walk_next}
+use Rattle.depth.specs.WalkRanges.{WalkRange, walk_range_take, range_more}
 use Rattle.single.specs.Cost.{charge_of, cost_at}
 use Rattle.single.specs.Single.{Serves, bucket_of}
 use Rattle.first_runs.specs.declared.charges.Charged.{Charged}
-use Rattle.first_runs.specs.Charge.{walk_depth, no_charge, charge_at, Stepped, Stops, Far}
+use Rattle.first_runs.specs.Charge.{walk_depth, no_charge, charge_at, Stepped, StopsAt, Stops, Far}
 use Rattle.first_runs.specs.Outline.{unpriced}
 
 -- What carries some periods carries the first of them.
@@ -127,6 +128,9 @@ module _ (t : Tariff) (high : ℕ) (ds : List ℕ) where
       record { inside = omega arith; walk = e; depth = ap (walk_depth t) e ∙ started-depth t.factor.p t.factor.q t.depth_cap.0 ∙ ap figures (sym f) }
 
   module _ (i : ℕ) (c : Charged) (k : Walked t high ds i c) (l : i < length ds) where
+    pub walked-room : high ≤ rate_limit → Demands ds → length ds ≤ trace_limit → WalkRange (trace_limit - 1) c.walk
+    walked-room hr h n = rw k.walk (range_more (omega arith) (walk_range_take high i ds hr h k.inside))
+
     module _ (low : ℕ) (n : Charged) (s : Stepped t high low (get_or ds i 0) c n) where
       stepped_walk : n.walk ≡ walk_of high (take (i + 1) ds)
       stepped_walk = s.walked ∙ ap (λ (w : Walk). pushed high w (get_or ds i 0)) k.walk ∙ sym (walk_next high ds i l)
@@ -141,6 +145,17 @@ module _ (t : Tariff) (high : ℕ) (ds : List ℕ) where
 
 -- ---- The charges at which a walk can stop
 
+-- The least charge at which so many periods and the rest cost more than what is known.
+pub stops_at : (known rest n : ℕ) → 1 ≤ n → known ≤ unpriced → StopsAt known rest n ((known - rest) / n + 1)
+stops_at known rest n some l =
+    record {
+      few = omega (arith, div-le_self (known - rest) n);
+      beyond = λ c m. let k : known - rest < c * n = (div-lt_iff_lt-mul some).0 (omega arith) in omega (arith, k);
+    }
+
+pub stops_at_once : (known rest n : ℕ) → known < rest → StopsAt known rest n 0
+stops_at_once known rest n l = record { few = omega arith; beyond = λ c m. omega arith }
+
 -- What is known of the list once it is filled from the end down to the entry `from`,
 -- the last entry filled being `charge`.
 pub record Stopping (t : Tariff) (known : ℕ) (costs : List ℕ) (from charge : ℕ) (stops : List ℕ) : Type 0 where
@@ -151,6 +166,15 @@ pub record Stopping (t : Tariff) (known : ℕ) (costs : List ℕ) (from charge :
       → known < cost_at t (j + 1) c + get_or costs j 0
 
 module _ (t : Tariff) (known : ℕ) (costs stops : List ℕ) where
+  pub stopping_start : (from : ℕ) → length costs ≤ from → Stopping t known costs from 0 stops
+  stopping_start from l =
+      record {
+        few = omega arith;
+        all = λ j c m n k. absurd (omega arith);
+        below = λ i m n. absurd (omega arith);
+        beyond = λ i j c m n k e. absurd (omega arith);
+      }
+
   module _ (from charge stop : ℕ) (room : from < length stops) (k : Stopping t known costs (suc from) charge stops) (low : stop < no_charge)
       (here : (c : ℕ) → stop ≤ c → known < cost_at t (from + 1) c + get_or costs from 0) where
     abbrev next : ℕ
@@ -169,6 +193,26 @@ module _ (t : Tariff) (known : ℕ) (costs stops : List ℕ) where
 
     next_few : next < no_charge
     next_few = omega (arith, k.few)
+
+    pub stopping_more : Stopping t known costs from next filled
+    stopping_more =
+        record {
+          few = next_few;
+          all = next_all;
+          below = λ i l m. entry (λ (n : ℕ). n < no_charge) i next_few (λ n. k.below i (omega arith) m);
+          beyond = λ i j c l m n.
+              entry (λ (x : ℕ). x ≤ c → known < cost_at t (j + 1) c + get_or costs j 0) i (λ e. next_all j c (omega arith) n e) (λ f. k.beyond i j c (omega arith) m n);
+        }
+      where
+        entry : (P : ℕ → Type 0) (i : ℕ) → P next → ((i ≡ from → ⊥) → P (get_or stops i 0)) → P (get_or filled i 0)
+        entry P i new old = go (eqb i from) refl
+          where
+            go : (b : Bool) → eqb i from ≡ b → P (get_or filled i 0)
+            go true e = subst P (sym (ap (λ (n : ℕ). get_or filled n 0) (eqb-true i from e) ∙ get_or-set_same stops from next 0 room)) new
+            go false e = subst P (sym (get_or-set_other stops from i next 0 (eqb-false i from e))) (old (eqb-false i from e))
+
+  pub stopping_end : (charge : ℕ) → length costs ≤ length stops → Stopping t known costs 0 charge stops → Stops t known costs stops
+  stopping_end charge room k = record { room = room; below = λ i l. k.below i (omega arith) l; beyond = λ i j c l m n. k.beyond i j c (omega arith) l m n }
 
 -- A smaller cost known is still passed.
 pub stops_lower : {t : Tariff} {known less : ℕ} {costs stops : List ℕ} → less ≤ known → Stops t known costs stops

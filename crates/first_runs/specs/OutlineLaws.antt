@@ -1,7 +1,8 @@
 -- The order of outlines: "not ahead" is a total preorder, and of two different outlines one is ahead.
 -- Assumes nothing.
-use Rattle.std.specs.Prelude.{ℕ, ◌≤◌, ◌<◌, ◌≡◌, true, false}
-use Rattle.std.proofs.Common.{arith, le_trans, le_of_lt, le_antisymm, ap, ◌∙◌, ltb-true, ltb-false, le-ltb}
+use Rattle.std.specs.Prelude.{ℕ, ◌≤◌, ◌<◌, ◌≡◌, true, false, ◌&&◌, ◌||◌, ltb, eqb}
+use Rattle.std.proofs.Common.{arith, le_trans, le_of_eq, le_of_lt, le_antisymm, sym, ap, ◌∙◌, ltb-true, ltb-false, le-ltb, lt-ltb, eq-eqb}
+use Rattle.single.specs.Preference.{smaller}
 use Rattle.single.specs.PreferenceLaws.{not_smaller, smaller_not, smaller-trans, smaller-same, smaller-asym}
 use Rattle.first_runs.specs.declared.outlines.Outline.{Outline}
 use Rattle.first_runs.specs.Outline.{ahead}
@@ -42,6 +43,15 @@ not_ahead-cost x y h = (smaller_not y.cost x.cost _ h).0
 pub dearer_not_ahead : (x y : Outline) → x.cost < y.cost → ahead y x ≡ false
 unfolding ahead
 dearer_not_ahead x y h = not_smaller _ _ _ (le_of_lt h) (λ e. absurd (omega arith))
+
+-- What costs less is ahead, and between equal costs the buckets and the first run decide.
+pub cheaper_ahead : (x y : Outline) → x.cost < y.cost → ahead x y ≡ true
+unfolding ahead smaller
+cheaper_ahead x y h = rw (lt-ltb x.cost y.cost h)
+
+pub same-cost-ahead : (x y : Outline) → x.cost ≡ y.cost → ahead x y ≡ ltb x.buckets y.buckets || eqb x.buckets y.buckets && ltb y.first x.first
+unfolding ahead smaller
+same-cost-ahead x y e = rw (le-ltb x.cost y.cost (le_of_eq (sym e)), eq-eqb x.cost y.cost e)
 
 -- What only costs at least as much is not ahead, nor is what has more buckets besides.
 pub alike_not_ahead : (x y : Outline) → x.cost ≤ y.cost → y.buckets ≡ x.buckets → y.first ≡ x.first → ahead y x ≡ false

@@ -31,6 +31,9 @@ then_read_lem (faulty x) next e = absurd (read-faulty (sym e))
 -- ---- One byte
 
 module _ (s : Scan) (b : ℕ) where
+  pub digit_many : figures_limit ≤ length s.figures → with_digit s b ≡ faulty (fault_at Many s)
+  digit_many l = rw (le-leb figures_limit (length s.figures) l)
+
   pub digit_value : (o : Option ℕ) → length s.figures < figures_limit → pushed (limit_of (length s.figures)) s.value b ≡ o → with_digit s b ≡ unless_above s o
   digit_value o l e = rw (lt-leb figures_limit (length s.figures) l) (ap (unless_above s) e)
 
@@ -39,15 +42,29 @@ module _ (s : Scan) where
   abbrev pub Stands : Bool → Type 0
   Stands t = factor_stands (length s.figures) (get_or s.figures 3 0) s.value ≡ t
 
+  pub closed_idle : s.begun ≡ false → closed s ≡ read s
+  closed_idle h = rw h
+
+  pub closed-factor : s.begun ≡ true → Stands false → closed s ≡ faulty (fault_at Factor s)
+  closed-factor h k = rw (h, k)
+
   pub closed_figure : s.begun ≡ true → Stands true → closed s ≡ read (with_figure s)
   closed_figure h k = rw (h, k)
 
-module _ (s : Scan) (b : ℕ) (plain : s.comment ≡ false) where
-  pub after-digit : is_digit b ≡ true → after_byte s b ≡ with_digit s b
-  after-digit h = rw (plain, h)
+module _ (s : Scan) (b : ℕ) where
+  pub after-comment : s.comment ≡ true → after_byte s b ≡ read (passed s b)
+  after-comment h = rw h
 
-  pub after_end : is_digit b ≡ false → ends_figure b ≡ true → after_byte s b ≡ on_read (λ t. passed t b) (closed s)
-  after_end other h = rw (plain, other, h)
+  module _ (plain : s.comment ≡ false) where
+    pub after-digit : is_digit b ≡ true → after_byte s b ≡ with_digit s b
+    after-digit h = rw (plain, h)
+
+    module _ (other : is_digit b ≡ false) where
+      pub after_end : ends_figure b ≡ true → after_byte s b ≡ on_read (λ t. passed t b) (closed s)
+      after_end h = rw (plain, other, h)
+
+      pub after_byte_lem : ends_figure b ≡ false → after_byte s b ≡ faulty (fault_at Byte s)
+      after_byte_lem h = rw (plain, other, h)
 
 -- ---- What a step that finds no fault has done
 

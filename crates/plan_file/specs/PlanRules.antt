@@ -160,6 +160,10 @@ read-holds room bs x e =
 pub read_fits : (room : ℕ) (bs : List ℕ) (x : Recorded) → plan_in bs ≡ figures x → length x.buckets ≤ room → read_plan room bs ≡ figures x
 read_fits room bs x e l = sym (then_figures (plan_in bs) (fitting room) e) ∙ ap (λ (ok : Bool). weigh ok 6 (figures x)) (le-leb _ _ l)
 
+-- And where the list has less room, it is refused.
+pub read_full : (room : ℕ) (bs : List ℕ) (x : Recorded) → plan_in bs ≡ figures x → leb (length x.buckets) room ≡ false → read_plan room bs ≡ refused 6
+read_full room bs x e h = sym (then_figures (plan_in bs) (fitting room) e) ∙ ap (λ (ok : Bool). weigh ok 6 (figures x)) h
+
 -- 512 records are room for any plan, so reading with them refuses what the file itself is refused for and nothing else.
 pub read_whole : (bs : List ℕ) → read_plan trace_limit bs ≡ plan_in bs
 read_whole bs = go (plan_in bs) refl

@@ -2,7 +2,7 @@
 -- Assumes nothing.
 use Rattle.std.specs.Prelude.{ℕ, zero, suc, ◌+◌, ◌-◌, ◌*◌, ◌/◌, ◌≤◌, ◌<◌, ◌≡◌, Bool}
 use native.Mathlib.Omega.{arith}
-use Rattle.std.proofs.Common.{le_refl, le_trans, subst}
+use Rattle.std.proofs.Common.{le_refl, le_trans, mul-le-mul_left, le-div_iff_mul-le, div-lt_iff_lt-mul, subst}
 use Rattle.std.proofs.Math.Path.{refl}
 use Rattle.std.proofs.Math.Bool.{true, false}
 use borrow.Author.Tests.{leb-true, leb-false}
@@ -10,7 +10,7 @@ use Rattle.std.proofs.Math.Dec.{leb}
 use Rattle.depth.specs.Walk.{ceiling}
 use Rattle.depth.specs.CeilingLaws.{ceiling-le, le-ceiling}
 use Rattle.spans.specs.declared.spans.Span.{Span}
-use Rattle.spans.specs.Spans.{SpanRange, Kept, Cut}
+use Rattle.spans.specs.Spans.{SpanRange, In, Kept, Cut, Other}
 
 -- ---- Spans kept
 
@@ -50,9 +50,21 @@ cut_falling a b c d s r l k =
     let e : a ≡ d + (a - d) = omega arith in
     kept_if (λ x h. falling (a - d) b c d x (subst (λ (y : ℕ). y * x + b ≤ c + d * x) e h)) k
 
--- ---- The first rate at which a line with a slope holds
+-- ---- The cases
 
 module _ (b c e : ℕ) (s : Span) (k : SpanRange s) where
+  -- What does not hold at the high end holds nowhere.
+  pub raised_none : c + e * s.hi < b → Cut 0 b c e s (record { lo = s.hi; hi = s.hi })
+  raised_none h =
+      record {
+        ordered = le_refl _;
+        low = k.ordered;
+        high = le_refl _;
+        kept = λ x i m.
+            let l : x ≤ s.hi = omega (arith, i.below) in
+            absurd (omega (arith, mul-le-mul_left e l));
+      }
+
   module _ (h : c + e * s.lo < b) (l : b ≤ c + e * s.hi) where
     abbrev first : ℕ
     first = (b - c + (e - 1)) / e
@@ -88,3 +100,54 @@ module _ (b c e : ℕ) (s : Span) (k : SpanRange s) where
         go : (n : ℕ) → c + n * s.lo < b → b ≤ c + n * s.hi → 1 ≤ n
         go zero h l = absurd (omega arith)
         go (suc n) h l = omega arith
+
+  -- What does not hold at the low end holds nowhere.
+  pub lowered_none : c < e * s.lo + b → Cut e b c 0 s (record { lo = s.lo; hi = s.lo })
+  lowered_none h =
+      record {
+        ordered = le_refl _;
+        low = le_refl _;
+        high = k.ordered;
+        kept = λ x i m. absurd (omega (arith, mul-le-mul_left e i.from));
+      }
+
+  module _ (h : c + e < e * s.hi + b) (l : e * s.lo + b ≤ c) where
+    abbrev last : ℕ
+    last = (c - b) / e
+
+    pub lowered_some : 1 ≤ e
+    lowered_some = go e h l
+      where
+        go : (n : ℕ) → c + n < n * s.hi + b → n * s.lo + b ≤ c → 1 ≤ n
+        go zero h l = absurd (omega arith)
+        go (suc n) h l = omega arith
+
+    le_last : (x : ℕ) → e * x + b ≤ c → x ≤ last
+    le_last x m = (le-div_iff_mul-le lowered_some).1 (omega arith)
+
+    last_hi : last < s.hi
+    last_hi = (div-lt_iff_lt-mul lowered_some).1 (omega arith)
+
+    pub lowered_last : Cut e b c 0 s (record { lo = s.lo; hi = last + 1 })
+    lowered_last =
+        record {
+          ordered = omega (arith, le_last s.lo l);
+          low = le_refl _;
+          high = omega (arith, last_hi);
+          kept = λ x i m. record { from = i.from; below = omega (arith, le_last x (omega arith)) };
+        }
+
+-- ---- Without the first rate
+
+pub other_low : (rate : ℕ) (s : Span) → s.lo < s.hi → s.lo ≡ rate → Kept (Other rate) s (record { lo = rate + 1; hi = s.hi })
+other_low rate s l e =
+    record {
+      ordered = omega arith;
+      low = omega arith;
+      high = le_refl _;
+      kept = λ x i o. record { from = go x i o (leb (rate + 1) x) refl; below = i.below };
+    }
+  where
+    go : (x : ℕ) → In s x → Other rate x → (b : Bool) → leb (rate + 1) x ≡ b → rate + 1 ≤ x
+    go x i o true f = leb-true _ _ f
+    go x i o false f = absurd (o (omega (arith, i.from, leb-false)))
