@@ -109,6 +109,7 @@ fn fill(rt: &impl Input, room: &mut [u8]) -> io::Result<usize>
 {
     let mut from = rt.reader();
     let mut done = 0;
+    // by hand, since how far a reading gets is known only after it
     while done < room.len() {
         let more = from.read(&mut room[done..])?;
         if more == 0 {
