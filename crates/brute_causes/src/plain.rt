@@ -62,6 +62,7 @@ fn is_short(trace: &[u16], factor: Factor, rate: u8, depth: u8, part: Part) -> b
     let Some(demands) = trace.get(before..before + part.periods as usize) else {
         return false;
     };
+    // at most four demands: none is cut off
     let demanded = demands
         .iter()
         .fold(0, |sum: u32, &demand| sum.saturating_add(demand as u32));
