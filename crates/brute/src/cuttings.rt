@@ -31,11 +31,9 @@ pub fn preferred(trace: &[u16], small: Small) -> Option<Choice> {
 }
 
 fn among(trace: &[u16], small: Small, start: u8, end: u8) -> Option<Choice> {
-    let mut best = None;
-    for n in start..end {
-        best = cheaper(best, trace, small, listed(n));
-    }
-    best
+    (start..end)
+        .map(listed)
+        .fold(None, |best, new| cheaper(best, trace, small, new))
 }
 
 // The cuttings of 1, 2, 3 and 4 periods: fewer runs first, then the longer first run and so on.

@@ -50,9 +50,9 @@ fn metered_over(a: Result<Meter, Refusal>, trace: [u16; 3]) -> Option<u64> {
 }
 
 fn offered(m: Meter, trace: [u16; 3]) -> Meter {
-    let first = meter::offer(m, trace[0]).meter;
-    let second = meter::offer(first, trace[1]).meter;
-    meter::offer(second, trace[2]).meter
+    trace
+        .iter()
+        .fold(m, |m, &demand| meter::offer(m, demand).meter)
 }
 
 // The tokens after a period, and what it discards.

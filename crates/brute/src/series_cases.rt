@@ -4,7 +4,7 @@ use crate::cutting_records::recorded;
 use crate::cuttings::{Choice, buckets_of, preferred};
 use list_calls::series_on;
 use samples::lent_records::{are_same, filled};
-use samples::small::{Small, demand, small_tariff, tariff_of};
+use samples::small::{Small, demands, small_tariff, tariff_of};
 use series::Plan;
 use terms::Refusal;
 
@@ -16,7 +16,7 @@ pub const CASES: u32 = 421_200;
 pub fn agrees(n: u32) -> bool {
     let m = n % 780;
     let k = among_its_length(m);
-    let trace: [u16; 4] = [demand(k), demand(k / 5), demand(k / 25), demand(k / 125)];
+    let trace = demands(k);
     let small = small_tariff(n / 780, fee(n / 140_400));
     match periods(m) {
         1 => agrees_on(&trace[..1], small),

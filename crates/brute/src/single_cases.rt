@@ -2,7 +2,7 @@
 // and whether the calls answer as the trials do.
 use depth::{depth_at, depth_from_end};
 use samples::plain::{Best, cheapest, smallest};
-use samples::small::{Small, demand, small_tariff, tariff_of};
+use samples::small::{Small, demands, small_tariff, tariff_of};
 use single::Priced;
 use terms::{Depth, Rate, Refusal};
 
@@ -12,7 +12,7 @@ pub const CASES: u32 = 450_000;
 
 // Case n: four demands, how many of them, and a tariff with fee 4.
 pub fn agrees(n: u32) -> bool {
-    let trace: [u16; 4] = [demand(n), demand(n / 5), demand(n / 25), demand(n / 125)];
+    let trace = demands(n);
     let turned: [u16; 4] = [trace[3], trace[2], trace[1], trace[0]];
     let small = small_tariff(n / 2500, 4);
     match n / 625 % 4 {
@@ -49,12 +49,7 @@ fn same_single(a: Result<Priced, Refusal>, best: Option<Best>) -> bool {
 
 // At every rate up to the cap.
 fn depths_agree(trace: &[u16], turned: &[u16], small: Small) -> bool {
-    for rate in 0..=small.rate_cap {
-        if !both_agree(trace, turned, small, rate) {
-            return false;
-        }
-    }
-    true
+    (0..=small.rate_cap).all(|rate| both_agree(trace, turned, small, rate))
 }
 
 fn both_agree(trace: &[u16], turned: &[u16], small: Small, rate: u8) -> bool {

@@ -6,7 +6,7 @@ mod plain;
 use causes::explain;
 use plain::{first_short, is_named};
 use samples::plain::smallest;
-use samples::small::{Small, demand, small_tariff, tariff_of};
+use samples::small::{Small, demands, small_tariff, tariff_of};
 use terms::{Rate, Refusal};
 
 // One to four periods with demands 0 to 4, five factors, rate caps 0, 2 and 4, depth caps 0, 3 and 9, and
@@ -22,7 +22,7 @@ fn main(rt: HostRuntime) {
 fn agrees(n: u32) -> bool {
     let rate = (n % 5) as u8;
     let k = n / 5;
-    let trace: [u16; 4] = [demand(k), demand(k / 5), demand(k / 25), demand(k / 125)];
+    let trace = demands(k);
     let small = small_tariff(k / 2500, 4);
     match k / 625 % 4 {
         0 => agrees_on(&trace[..1], small, rate),

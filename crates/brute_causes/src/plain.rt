@@ -11,26 +11,28 @@ pub struct Part {
     periods: u8,
 }
 
-// Whether a cause is that part; a part of no periods stands for nothing.
-pub fn is_named(cause: Cause, found: Part) -> bool {
-    let before = found.before as u32;
-    let last = before + found.periods as u32;
+// Whether a cause is that part, or nothing where there is none.
+pub fn is_named(cause: Cause, found: Option<Part>) -> bool {
+    let Some(part) = found else {
+        return matches!(cause, Cause::Nothing);
+    };
+    let before = part.before as u32;
+    let last = before + part.periods as u32;
     match cause {
-        Cause::Nothing => last == 0,
-        Cause::Opening(x) => (before == 0) & (0 < last) & (x.periods == last),
+        Cause::Nothing => false,
+        Cause::Opening(x) => (before == 0) & (x.periods == last),
         Cause::Stretch(x) => (0 < before) & (x.first == before + 1) & (x.last == last),
     }
 }
 
 // The first part of the list that a depth one smaller falls short of; none at depth 0.
-pub fn first_short(trace: &[u16], factor: Factor, rate: u8, depth: u8) -> Part {
+pub fn first_short(trace: &[u16], factor: Factor, rate: u8, depth: u8) -> Option<Part> {
     if depth == 0 {
-        return part_of(0, 0);
+        return None;
     }
     (0..10)
         .map(listed)
         .find(|&part| is_short(trace, factor, rate, depth - 1, part))
-        .unwrap_or(part_of(0, 0))
 }
 
 // The openings, shorter ones first; then the stretches, by their last period and then by their first.
@@ -56,29 +58,19 @@ fn part_of(before: u8, periods: u8) -> Part {
 // Whether a bucket falls short of the need of a part that the trace has: of an opening's by its starting
 // tokens, of a stretch's by its depth.
 fn is_short(trace: &[u16], factor: Factor, rate: u8, depth: u8, part: Part) -> bool {
-    if trace.len() < part.before as usize + part.periods as usize {
+    let before = part.before as usize;
+    let Some(demands) = trace.get(before..before + part.periods as usize) else {
         return false;
-    }
-    let demanded = demand(trace, part, 0) as u32
-        + demand(trace, part, 1) as u32
-        + demand(trace, part, 2) as u32
-        + demand(trace, part, 3) as u32;
+    };
+    // at most four demands: none is cut off
+    let demanded = demands
+        .iter()
+        .fold(0, |sum: u32, &demand| sum.saturating_add(demand as u32));
     let gained = gained(part.periods, rate as u16) as u32;
     if part.before == 0 {
         return start(factor, depth as u16) as u32 + gained < demanded;
     }
     depth as u32 + gained < demanded
-}
-
-// The demand at a place of the trace, counted from 0, if that is a place of the part; else 0.
-fn demand(trace: &[u16], part: Part, place: usize) -> u16 {
-    if place < part.before as usize {
-        return 0;
-    }
-    if part.before as usize + part.periods as usize <= place {
-        return 0;
-    }
-    if place < trace.len() { trace[place] } else { 0 }
 }
 
 // The rate for each of one to four periods.

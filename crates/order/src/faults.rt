@@ -5,11 +5,9 @@ use terms::Refusal;
 use typed_figures::limit_of;
 
 pub fn say(rt: &impl Eprint, fault: Fault, text: &[u8]) {
-    words(rt, "order: line ");
-    number(rt, fault.line as u64);
-    words(rt, ": ");
+    let line = fault.line;
+    let _ = eprint!(rt; "order: line {line}: ");
     name(rt, fault.figure);
-    words(rt, ": ");
     let word = word_around(text, fault.place);
     let reason = fault.reason;
     match reason {
@@ -19,9 +17,8 @@ pub fn say(rt: &impl Eprint, fault: Fault, text: &[u8]) {
         Reason::Many => words(rt, "more than 512 demands"),
         Reason::Few => words(rt, "the text ends where it is due"),
     }
-    words(rt, " (refused ");
-    number(rt, u32::from(Refusal::from(reason)) as u64);
-    words(rt, ")\n");
+    let number = u32::from(Refusal::from(reason));
+    let _ = eprint!(rt; " (refused {number})\n");
 }
 
 pub fn long_text(rt: &impl Eprint) {
@@ -29,53 +26,50 @@ pub fn long_text(rt: &impl Eprint) {
 }
 
 pub fn refused(rt: &impl Eprint, refusal: Refusal) {
-    words(rt, "order: refused ");
-    number(rt, u32::from(refusal) as u64);
-    words(rt, "\n");
+    let number = u32::from(refusal);
+    let _ = eprint!(rt; "order: refused {number}\n");
 }
 
-// A figure by its name; the first demand is demand 1.
+// A figure by its name, and a colon; the first demand is demand 1.
 fn name(rt: &impl Eprint, figure: usize) {
     if figure > 6 {
-        words(rt, "demand ");
-        number(rt, (figure - 6) as u64);
+        let demand = figure - 6;
+        let _ = eprint!(rt; "demand {demand}: ");
         return;
     }
+    let name = figure_name(figure);
+    let _ = eprint!(rt; "{name}: ");
+}
+
+fn figure_name(figure: usize) -> &'static str {
     match figure {
-        0 => words(rt, "rate price"),
-        1 => words(rt, "depth price"),
-        2 => words(rt, "fee"),
-        3 => words(rt, "p"),
-        4 => words(rt, "q"),
-        5 => words(rt, "rate cap"),
-        _ => words(rt, "depth cap"),
+        0 => "rate price",
+        1 => "depth price",
+        2 => "fee",
+        3 => "p",
+        4 => "q",
+        5 => "rate cap",
+        _ => "depth cap",
     }
 }
 
 fn above(rt: &impl Eprint, word: &[u8], figure: usize) {
     of_word(rt, word, " is above ");
-    number(rt, limit_of(figure) as u64);
+    let _ = rt.eprint(limit_of(figure));
 }
 
 // A word in quotes, then what is said of it.
 fn of_word(rt: &impl Eprint, word: &[u8], fault: &str) {
     words(rt, "\"");
-    shown(rt, word);
-    words(rt, "\"");
-    if SHOWN < word.len() {
-        words(rt, "...");
+    for &b in word.iter().take(SHOWN) {
+        byte(rt, b);
     }
-    words(rt, fault);
+    let rest = if SHOWN < word.len() { "..." } else { "" };
+    let _ = eprint!(rt; "\"{rest}{fault}");
 }
 
 // So many bytes of a word are shown.
 const SHOWN: usize = 40;
-
-fn shown(rt: &impl Eprint, word: &[u8]) {
-    for &b in word.iter().take(SHOWN) {
-        byte(rt, b);
-    }
-}
 
 // A byte that prints as itself, any other by its number, as \x00 to \xff: none reaches a terminal as
 // a command.
@@ -89,8 +83,4 @@ fn byte(rt: &impl Eprint, b: u8) {
 
 fn words(rt: &impl Eprint, text: &str) {
     let _ = rt.eprint(text);
-}
-
-fn number(rt: &impl Eprint, n: u64) {
-    let _ = rt.eprint(n);
 }

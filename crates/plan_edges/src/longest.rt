@@ -31,8 +31,7 @@ fn written(rt: &impl Print, length: usize) -> [u8; LENT_BYTES] {
     };
     let mut bytes = [LENT; LENT_BYTES];
     let answer = write_on(plan, buckets(), ENTRIES, lent_front(&mut bytes, length));
-    report::words(rt, b"512 buckets into");
-    report::number(rt, length as u64);
+    report::figure(rt, b"512 buckets into", length as u64);
     report::words(rt, b":");
     report::written(rt, answer, &bytes);
     bytes

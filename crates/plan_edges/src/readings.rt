@@ -2,10 +2,8 @@
 use crate::entries;
 use cases::{field, file_of};
 use list_calls::read_on;
-use plan_file::PlanFigures;
 use samples::file_bytes::front;
 use samples::lent_records::filled;
-use terms::Refusal;
 
 // A case: its name, and the first bytes of the file read.
 pub fn read_case(rt: &impl Print, line: &[u8]) {
@@ -27,13 +25,6 @@ pub fn read_into(rt: &impl Print, file: &[u8], entries: usize) {
     report::figure(rt, b"bytes", file.len() as u64);
     report::words(rt, b" read:");
     report::plan(rt, answer);
-    report::list(rt, list, buckets_of(answer));
-}
-
-// The number of buckets; none on a refusal.
-fn buckets_of(answer: Result<PlanFigures, Refusal>) -> usize {
-    match answer {
-        Ok(plan) => plan.buckets as usize,
-        Err(_) => 0,
-    }
+    // no record is filled on a refusal
+    report::list(rt, list, answer.map_or(0, |plan| plan.buckets as usize));
 }

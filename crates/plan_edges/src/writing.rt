@@ -47,20 +47,15 @@ fn edge(
     let answer = write_on(plan, list, entries, lent_front(&mut bytes, length));
     print_plan(rt, plan, first, last);
     report::figure(rt, b"list of", entries as u64);
-    report::words(rt, b", ");
-    report::words(rt, b"into");
-    report::number(rt, length as u64);
+    report::figure(rt, b", into", length as u64);
     report::words(rt, b":");
     report::written(rt, answer, &bytes);
 }
 
 fn print_plan(rt: &impl Print, plan: PlanFigures, first: BucketRecord, last: BucketRecord) {
-    report::words(rt, b"T");
-    report::number(rt, plan.periods as u64);
-    report::words(rt, b", k");
-    report::number(rt, plan.buckets as u64);
-    report::words(rt, b", cost");
-    report::number(rt, plan.cost);
+    report::figure(rt, b"T", plan.periods as u64);
+    report::figure(rt, b", k", plan.buckets as u64);
+    report::figure(rt, b", cost", plan.cost);
     report::words(rt, b",");
     report::record(rt, first);
     report::words(rt, b",");

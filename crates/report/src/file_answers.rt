@@ -14,10 +14,7 @@ pub fn fill(rt: &impl Print, a: Result<usize, Refusal>) {
 
 // How many entries or bytes were filled; none on a refusal.
 pub fn filled_of(a: Result<usize, Refusal>) -> usize {
-    match a {
-        Ok(n) => n,
-        Err(_) => 0,
-    }
+    a.unwrap_or(0)
 }
 
 // An order's number of periods and its tariff, or the refusal.

@@ -13,7 +13,7 @@ pub use file_bytes::{hex_lines, written};
 pub use lent_lists::{kept, list};
 use series::Plan;
 use single::Priced;
-use terms::{BucketRecord, Depth, Refusal};
+use terms::{Bucket, BucketRecord, Depth, Refusal};
 
 // Words as they stand.
 pub fn words(rt: &impl Print, text: &[u8]) {
@@ -44,12 +44,7 @@ pub fn end_line(rt: &impl Print) {
 pub fn agreement<F: Fn(u32) -> bool>(rt: &impl Print, cases: u32, agrees: F)
     requires { F.IsAlwaysCallable agrees }
 {
-    let mut agreed: u32 = 0;
-    for n in 0..cases {
-        if agrees(n) {
-            agreed += 1;
-        }
-    }
+    let agreed = (0..cases).filter(|&n| agrees(n)).count();
     figure(rt, b"cases", cases as u64);
     figure(rt, b" agreed", agreed as u64);
     end_line(rt);
@@ -57,8 +52,7 @@ pub fn agreement<F: Fn(u32) -> bool>(rt: &impl Print, cases: u32, agrees: F)
 
 // The word refused and the number.
 pub fn refusal(rt: &impl Print, x: Refusal) {
-    words(rt, b" refused");
-    number(rt, u32::from(x) as u64);
+    figure(rt, b" refused", u32::from(x) as u64);
 }
 
 // Spare and discards, or the refusal.
@@ -67,8 +61,7 @@ pub fn trial(rt: &impl Print, a: Result<TrialFigures, Refusal>) {
         Ok(t) => {
             words(rt, b" spare");
             signed(rt, t.spare);
-            words(rt, b" over");
-            number(rt, t.over as u64);
+            figure(rt, b" over", t.over as u64);
         }
         Err(x) => refusal(rt, x),
     }
@@ -86,10 +79,7 @@ pub fn totals(rt: &impl Print, sent: u64, over: u64, lost: u64, held: u64) {
 // The depth, or the refusal.
 pub fn depth(rt: &impl Print, a: Result<Depth, Refusal>) {
     match a {
-        Ok(b) => {
-            words(rt, b" depth");
-            number(rt, b.0 as u64);
-        }
+        Ok(b) => figure(rt, b" depth", b.0 as u64),
         Err(x) => refusal(rt, x),
     }
     end_line(rt);
@@ -123,12 +113,8 @@ fn cause(rt: &impl Print, x: Cause) {
 pub fn single(rt: &impl Print, a: Result<Priced, Refusal>) {
     match a {
         Ok(x) => {
-            words(rt, b" rate");
-            number(rt, x.bucket.rate.0 as u64);
-            words(rt, b" depth");
-            number(rt, x.bucket.depth.0 as u64);
-            words(rt, b" cost");
-            number(rt, x.cost);
+            bucket(rt, x.bucket);
+            figure(rt, b" cost", x.cost);
         }
         Err(x) => refusal(rt, x),
     }
@@ -139,10 +125,8 @@ pub fn single(rt: &impl Print, a: Result<Priced, Refusal>) {
 pub fn series(rt: &impl Print, a: Result<Plan, Refusal>) {
     match a {
         Ok(plan) => {
-            words(rt, b" buckets");
-            number(rt, plan.buckets as u64);
-            words(rt, b" cost");
-            number(rt, plan.cost);
+            figure(rt, b" buckets", plan.buckets as u64);
+            figure(rt, b" cost", plan.cost);
         }
         Err(x) => refusal(rt, x),
     }
@@ -150,10 +134,11 @@ pub fn series(rt: &impl Print, a: Result<Plan, Refusal>) {
 
 // One bucket of a plan and the length of its run.
 pub fn record(rt: &impl Print, x: BucketRecord) {
-    words(rt, b" run");
-    number(rt, x.periods as u64);
-    words(rt, b" rate");
-    number(rt, x.bucket.rate.0 as u64);
-    words(rt, b" depth");
-    number(rt, x.bucket.depth.0 as u64);
+    figure(rt, b" run", x.periods as u64);
+    bucket(rt, x.bucket);
+}
+
+fn bucket(rt: &impl Print, x: Bucket) {
+    figure(rt, b" rate", x.rate.0 as u64);
+    figure(rt, b" depth", x.depth.0 as u64);
 }

@@ -19,21 +19,16 @@ pub fn smallest(trace: &[u16], small: Small, rate: u8) -> Option<u8> {
 
 // The cheapest pair, if there is one, and of equal ones the first in the order of rates and then depths.
 pub fn cheapest(trace: &[u16], small: Small) -> Option<Best> {
-    let mut best = None;
-    for rate in 0..=small.rate_cap {
-        best = at_rate(best, trace, small, rate);
-    }
-    best
+    (0..=small.rate_cap).fold(None, |best, rate| at_rate(best, trace, small, rate))
 }
 
 fn at_rate(so_far: Option<Best>, trace: &[u16], small: Small, rate: u8) -> Option<Best> {
-    let mut best = so_far;
-    for depth in 0..=small.depth_cap {
-        if carries(trace, small.factor, rate, depth) {
-            best = cheaper(best, rate, depth, cost(small, trace.len(), rate, depth));
-        }
-    }
-    best
+    (0..=small.depth_cap)
+        .filter(|&depth| carries(trace, small.factor, rate, depth))
+        .fold(so_far, |best, depth| {
+            let cost = cost(small, trace.len(), rate, depth);
+            cheaper(best, Best { rate, depth, cost })
+        })
 }
 
 // Whether nothing is discarded.
@@ -45,10 +40,10 @@ fn carries(trace: &[u16], factor: Factor, rate: u8, depth: u8) -> bool {
     bucket::trial(bucket, factor, trace).is_ok_and(|t| t.over == 0)
 }
 
-fn cheaper(best: Option<Best>, rate: u8, depth: u8, cost: u16) -> Option<Best> {
+fn cheaper(best: Option<Best>, new: Best) -> Option<Best> {
     match best {
-        Some(old) if old.cost <= cost => best,
-        _ => Some(Best { rate, depth, cost }),
+        Some(old) if old.cost <= new.cost => best,
+        _ => Some(new),
     }
 }
 

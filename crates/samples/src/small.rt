@@ -19,6 +19,11 @@ pub fn demand(n: u32) -> u16 {
     (n % 5) as u16
 }
 
+// Four demands of 0 to 4: number n of 625.
+pub fn demands(n: u32) -> [u16; 4] {
+    [demand(n), demand(n / 5), demand(n / 25), demand(n / 125)]
+}
+
 // A tariff with some fee: number n of 180.
 pub fn small_tariff(n: u32, fee: u8) -> Small {
     Small {
