@@ -11,7 +11,7 @@ use crate::runs::Search;
 use single::rates::rates_to_weigh;
 use terms::{Rate, Tariff};
 
-// A charge that no walk stops at.
+// A charge that no walk stops at. A number and no Option: the definition `Far` says it so.
 pub const FAR: u64 = UNPRICED + 1;
 
 // How many rates are looked at together before each of them is weighed.
