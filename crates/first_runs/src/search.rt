@@ -64,12 +64,9 @@ fn weigh_all(search: Search<'_>, found: Choice) -> Choice
 {
     let end = rates_to_weigh(search.trace, search.tariff);
     let mut best = found;
-    let mut low: u32 = 0;
-    // by hand, since the step is not 1
-    while low < end {
+    for low in (0..end).step_by(TOGETHER as usize) {
         let next = (low + TOGETHER).min(end);
         best = search.weigh_rates(low, next, best);
-        low = next;
     }
     best
 }
