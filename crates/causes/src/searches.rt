@@ -34,10 +34,10 @@ pub fn stretch_end(trace: &[u16], bucket: Bucket) -> usize
     ensures { result ≡ figure_or (stretch_end bucket.rate.0 bucket.depth.0 trace.now) (length trace.now) }
 {
     let mut need: u32 = 0;
-    for i in 1..trace.len() {
-        need = (need + trace[i] as u32).saturating_sub(bucket.rate.0);
+    for (i, &demand) in trace[1..].iter().enumerate() {
+        need = (need + demand as u32).saturating_sub(bucket.rate.0);
         if bucket.depth.0 < need {
-            return i + 1;
+            return i + 2;
         }
     }
     trace.len()
@@ -52,9 +52,11 @@ pub fn stretch_start(trace: &[u16], bucket: Bucket, last: usize) -> usize
     requires last_in_bounds { last ≤ length trace.now }
     ensures { result ≡ figure_or (stretch_start bucket.rate.0 bucket.depth.0 trace.now last) last }
 {
+    // where there is none it is the last, which is the answer then
     let mut first = last;
     let mut demands: u32 = 0;
     let mut tokens = bucket.depth.0;
+    // by hand: as a chain it would enumerate, take, skip and turn round at once
     for i in (1..last).rev() {
         demands += trace[i] as u32;
         tokens += bucket.rate.0;

@@ -28,14 +28,14 @@ pub fn plan_holds(trace: &[u16], tariff: Tariff, stated: &Recorded) -> bool
 {
     let records = stated.buckets.as_slice();
     let mut cost: u64 = 0;
-    let mut start = 0;
+    let mut rest = trace;
     for &x in records {
-        let end = start + x.periods as usize;
-        if !run_holds(tariff, x.bucket, &trace[start..end]) {
+        let (run, later) = rest.split_at(x.periods as usize);
+        if !run_holds(tariff, x.bucket, run) {
             return false;
         }
         cost += cost_of(tariff, x.periods as u64, x.bucket);
-        start = end;
+        rest = later;
     }
     stated.cost == cost
 }

@@ -18,8 +18,7 @@ pub fn store_figures(
         (lists runs.old rates.old depths.old)
         (lists runs.new rates.new depths.new) }
 {
-    for i in 0..records.len() {
-        let x = records[i];
+    for (i, &x) in records.iter().enumerate() {
         runs[i] = x.periods;
         rates[i] = x.bucket.rate.0;
         depths[i] = x.bucket.depth.0;

@@ -17,10 +17,7 @@ use terms::limits::TRACE_LIMIT;
 pub fn metqoraz_series(order: &[u8]) -> u64
     ensures { result ≡ coded (planned_cost order.now) }
 {
-    match plan_order(order, TRACE_LIMIT, TRACE_LIMIT) {
-        Ok(x) => x.plan.cost,
-        Err(why) => coded_refusal(why),
-    }
+    plan_order(order, TRACE_LIMIT, TRACE_LIMIT).map_or_else(coded_refusal, |x| x.plan.cost)
 }
 
 // Writes the file of the cheapest plan for an order into the front of the bytes and answers its

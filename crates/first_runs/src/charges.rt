@@ -95,6 +95,7 @@ pub fn stops_of(costs: &[u64], tariff: Tariff, known: u64) -> [u64; TRACE_LIMIT]
 {
     let mut stops = [0u64; TRACE_LIMIT];
     let mut charge: u64 = 0;
+    // by the number: it places cost and stop, and one more is how many periods are billed
     for i in (0..costs.len()).rev() {
         let billed = billed_periods(tariff, i as u64 + 1);
         let stop = stop_at(known, tariff.fee as u64 + costs[i], billed);

@@ -5,7 +5,8 @@ ghost use Rattle.first_runs.specs.Outline.{ahead, better_choice};
 
 use terms::Rate;
 
-// Stands for the cost where there is no bucket or no cutting. Every cost is below it.
+// Stands for the cost where there is no bucket or no cutting. Every cost is below it. A number and no Option:
+// the definitions `unpriced` and `no_outline` say it so.
 pub const UNPRICED: u64 = 1_000_000_000_000_000_000;
 
 // The cost of a cutting, its buckets and the periods of its first run.

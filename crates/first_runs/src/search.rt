@@ -11,7 +11,7 @@ use crate::runs::Search;
 use single::rates::rates_to_weigh;
 use terms::{Rate, Tariff};
 
-// A charge that no walk stops at.
+// A charge that no walk stops at. A number and no Option: the definition `Far` says it so.
 pub const FAR: u64 = UNPRICED + 1;
 
 // How many rates are looked at together before each of them is weighed.
@@ -64,12 +64,9 @@ fn weigh_all(search: Search<'_>, found: Choice) -> Choice
 {
     let end = rates_to_weigh(search.trace, search.tariff);
     let mut best = found;
-    let mut low: u32 = 0;
-    // by hand, since the step is not 1
-    while low < end {
+    for low in (0..end).step_by(TOGETHER as usize) {
         let next = (low + TOGETHER).min(end);
         best = search.weigh_rates(low, next, best);
-        low = next;
     }
     best
 }

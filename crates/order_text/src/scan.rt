@@ -60,8 +60,8 @@ fn scan(text: &[u8], figures: &mut [u32]) -> Result<Cursor, Fault>
         value: 0,
         count: 0,
     };
-    for i in front..text.len() {
-        at = after_byte(at, text[i], figures)?;
+    for &byte in &text[front..] {
+        at = after_byte(at, byte, figures)?;
     }
     Ok(at)
 }

@@ -20,6 +20,7 @@ fn word_start(text: &[u8], place: usize) -> usize
     ensures { result ≡ word_start text.now place }
 {
     let front = mark_length(text);
+    // by hand: a position from behind would see the bytes alone, and not the mark's end beside them
     for before in (0..place).rev() {
         let start = before + 1;
         if (start == front) | ends_figure(text[before]) {

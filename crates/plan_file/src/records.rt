@@ -58,6 +58,7 @@ pub fn load_records(bytes: &[u8], buckets: usize) -> Records
     ensures { result ≡ records_in buckets bytes.now }
 {
     let mut records = Records::new();
+    // by the number: record_at takes the place of a record, and not its bytes
     for i in 0..buckets {
         let x = record_at(bytes, BUCKETS_OFFSET + RECORD_BYTES * i);
         records.push(x);

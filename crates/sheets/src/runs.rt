@@ -53,12 +53,13 @@ pub fn put_runs(
     ensures { Puts text.old at (run_lines factor 1 trace.now records.now) text.new result }
 {
     let mut next = at;
-    let mut start = 0;
+    let mut first: u32 = 1;
+    let mut rest = trace;
     for &x in records {
-        let end = start + x.periods as usize;
-        let first = start as u32 + 1;
-        next = put_run(text, next, factor, first, x.bucket, &trace[start..end]);
-        start = end;
+        let (run, later) = rest.split_at(x.periods as usize);
+        next = put_run(text, next, factor, first, x.bucket, run);
+        first += x.periods;
+        rest = later;
     }
     next
 }

@@ -5,9 +5,11 @@ use native.Mathlib.Numerals.{add-one}
 use mathlib.Core.Path.{◌≡◌, refl, sym, ap, ◌∙◌}
 use mathlib.Core.Bool.{Bool}
 use mathlib.Core.List.{List, [], ◌∷◌, ◌++◌}
+use borrow.Author.Rules.{part_to_end}
 use borrow.Author.Tests.{lt-ltb, le-ltb}
-use lib.ListN.{length, get_or, take, drop}
+use lib.ListN.{length, get_or, take, drop, length-drop}
 use lib.Seq.{drop-append-le, length-take-le, slice, slice_empty, take-suc}
+use Rattle.std.proofs.Common.{get_or-drop}
 use Rattle.terms.specs.Answer.{Answer, figures, figure_or}
 use Rattle.depth.specs.declared.walk.Walk.{Walk}
 use Rattle.depth.specs.SearchLaws.{from_failed, from_none, from-passed}
@@ -76,13 +78,37 @@ end {r} {C} {ds} {last = last} k l =
 pub loop-i-init : goal.loop-i-init
 loop-i-init c = start _ _ _ c.requires.periods_range.some
 
+-- the periods from the second on, as they stand in the trace
+module _ (ds part : List ℕ) (i : ℕ) (e : part ≡ drop 1 ds) where
+  inside : i < length part → i + 1 < length ds
+  inside l = omega (arith, ap length e, length-drop 1 ds)
+
+  past : length part ≤ i → length ds ≤ i + 1
+  past l = omega (arith, ap length e, length-drop 1 ds)
+
+  demand_is : get_or part i 0 ≡ get_or ds (i + 1) 0
+  demand_is =
+      let f : 1 + i ≡ i + 1 = omega arith in
+      ap (λ (xs : List ℕ). get_or xs i 0) e ∙ get_or-drop 1 ds i 0 ∙ ap (λ (n : ℕ). get_or ds n 0) f
+
 pub returns-then-bucket-need : goal.returns-then-bucket-need
 returns-then-bucket-need c =
-    sym
-    (ap (λ (a : Answer ℕ). figure_or a (length c.args.trace.now)) (found c.loop-i.invariant c.loop-i-test.true _ c.saturating_sub-need.ensures c.if-bucket-need.true))
+    let ds = c.args.trace.now in
+    let e = part_to_end ds 1 in
+    let l = inside ds _ c.loop-i.i e c.loop-i-test.true in
+    let n = c.saturating_sub-need.ensures ∙ ap (λ (d : ℕ). c.loop-i.need + d - c.args.bucket.rate.0) (demand_is ds _ c.loop-i.i e) in
+    let two : c.loop-i.i + 2 ≡ c.loop-i.i + 1 + 1 = omega arith in
+    two ∙ sym (ap (λ (a : Answer ℕ). figure_or a (length ds)) (found c.loop-i.invariant l _ n c.if-bucket-need.true))
 
 pub loop-i-preserved : goal.loop-i-preserved
-loop-i-preserved c = next c.loop-i.invariant c.loop-i-test.true _ c.saturating_sub-need.ensures c.if-bucket-need.false
+loop-i-preserved c =
+    let ds = c.args.trace.now in
+    let e = part_to_end ds 1 in
+    let l = inside ds _ c.loop-i.i e c.loop-i-test.true in
+    let n = c.saturating_sub-need.ensures ∙ ap (λ (d : ℕ). c.loop-i.need + d - c.args.bucket.rate.0) (demand_is ds _ c.loop-i.i e) in
+    next c.loop-i.invariant l _ n c.if-bucket-need.false
 
 pub returns : goal.returns
-returns c = end c.loop-i.invariant c.loop-i-test.false
+returns c =
+    let ds = c.args.trace.now in
+    end c.loop-i.invariant (past ds _ c.loop-i.i (part_to_end ds 1) c.loop-i-test.false)

@@ -17,4 +17,4 @@ pub record Ended (r C : ℕ) (ds : List ℕ) (need last : ℕ) : Type 0 where
   pub so_far : stretch_end r C ds ≡ first_from (λ v. is_found (stretch_start r C ds v)) (length ds - last) (last + 1)
 
 abbrev pub invariant-loop-i : goal.invariant-loop-i
-invariant-loop-i l = Ended l.bucket.rate.0 l.bucket.depth.0 l.trace l.need l.i
+invariant-loop-i l = Ended l.bucket.rate.0 l.bucket.depth.0 l.trace l.need (l.i + 1)
