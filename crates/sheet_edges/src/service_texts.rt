@@ -41,13 +41,21 @@ pub fn services(rt: &impl Print, order: &[u8], bucket: Bucket, room: usize) {
     report::figure(rt, b" in", room as u64);
     service_in(rt, room, |text| services::trial_line(order, bucket, text));
     report::figure(rt, b"depth in", room as u64);
-    service_in(rt, room, |text| services::depth_line(order, bucket.rate, text));
+    service_in(
+        rt,
+        room,
+        |text| services::depth_line(order, bucket.rate, text),
+    );
     report::figure(rt, b"from the end in", room as u64);
     service_in(rt, room, |text| {
         services::depth_from_end_line(order, bucket.rate, text)
     });
     report::figure(rt, b"cause in", room as u64);
-    service_in(rt, room, |text| services::explain_line(order, bucket.rate, text));
+    service_in(
+        rt,
+        room,
+        |text| services::explain_line(order, bucket.rate, text),
+    );
 }
 
 pub fn sheet_in(rt: &impl Print, order: &[u8], room: usize) {
