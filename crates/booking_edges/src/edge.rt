@@ -1,11 +1,10 @@
 // One booking: its order, what it is lent, and the answer.
 use crate::recorded::{print_runs, read_again};
 use crate::rooms::{Rooms, print_rooms, rooms_of};
-use booking::{Booking, MeterTotals};
-use cases::{DEMANDS, demands, field, figure, file_of, tariff_of, trace};
+use booking::Booking;
+use cases::{DEMANDS, field, figure, file_of, tariff_of, trace};
 use list_calls::book_on;
 use order_file::write_order;
-use plan_file::PlanFigures;
 use samples::demands::{LENT_DEMAND, are_lent, lent_demands};
 use samples::file_bytes::{LENT, LENT_BYTES, front, is_lent, lent_front};
 use samples::lent_records::{ENTRIES, are_kept, filled};
@@ -14,9 +13,9 @@ use terms::Refusal;
 // A case: an order of some tariff and trace, booked in some rooms.
 pub fn order_case(rt: &impl Print, line: &[u8]) {
     let mut room = [0u16; DEMANDS];
-    let count = trace(field(line, 4), &mut room);
+    let trace = trace(field(line, 4), &mut room);
     let mut file = [LENT; LENT_BYTES];
-    let answer = write_order(tariff_of(field(line, 3)), demands(&room, count), &mut file);
+    let answer = write_order(tariff_of(field(line, 3)), trace, &mut file);
     named(rt, line, front(&file, report::filled_of(answer)));
 }
 
@@ -51,12 +50,13 @@ fn book_in(rt: &impl Print, order: &[u8], rooms: Rooms) {
     let plan = lent.plan;
     let back = lent.back;
     print_answer(rt, answer);
-    let booking = booking_of(answer);
-    let buckets = booking.plan.buckets as usize;
-    let length = booking.length;
+    // 0 where nothing is booked
+    let periods = answer.map_or(0, |x| x.plan.periods as usize);
+    let buckets = answer.map_or(0, |x| x.plan.buckets as usize);
+    let length = answer.map_or(0, |x| x.length);
     report::kept(
         rt,
-        are_lent(&demands, booking.plan.periods as usize)
+        are_lent(&demands, periods)
             & are_kept(plan, buckets)
             & is_lent(&bytes, length)
             & are_kept(back, buckets),
@@ -86,26 +86,5 @@ fn print_answer(rt: &impl Print, answer: Result<Booking, Refusal>) {
             );
         }
         Err(x) => report::refusal(rt, x),
-    }
-}
-
-// The booking; all zeros on a refusal.
-fn booking_of(answer: Result<Booking, Refusal>) -> Booking {
-    match answer {
-        Ok(x) => x,
-        Err(_) => Booking {
-            plan: PlanFigures {
-                periods: 0,
-                buckets: 0,
-                cost: 0,
-            },
-            length: 0,
-            meters: MeterTotals {
-                sent: 0,
-                over: 0,
-                lost: 0,
-                held: 0,
-            },
-        },
     }
 }

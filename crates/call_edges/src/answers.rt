@@ -1,19 +1,18 @@
 // One case in a line: its name and the answer.
 use crate::meters::print_meter;
-use cases::{DEMANDS, bucket_of, demands, factor_of, field, figure, first, tariff_of, trace};
+use cases::{DEMANDS, bucket_of, factor_of, field, figure, first, tariff_of, trace};
 use list_calls::series_on;
 use meter::{meter_run, open_meter};
 use samples::lent_records::filled;
-use series::Plan;
-use terms::{Rate, Refusal, Tariff, tariff_in_range};
+use terms::{Rate, Tariff, tariff_in_range};
 
 pub fn named(rt: &impl Print, line: &[u8]) {
     let mut room = [0u16; DEMANDS];
-    let count = trace(field(line, 3), &mut room);
+    let trace = trace(field(line, 3), &mut room);
     report::words(rt, field(line, 1));
     report::words(rt, b":");
     let last = figure(field(line, 4), 0);
-    answer(rt, first(line), field(line, 2), demands(&room, count), last);
+    answer(rt, first(line), field(line, 2), trace, last);
 }
 
 // The kind of case is told by its first letter; the last figure is a rate or a number of entries.
@@ -52,13 +51,7 @@ fn series(rt: &impl Print, trace: &[u16], tariff: Tariff, entries: usize) {
     let answer = lent.answer;
     let list = lent.list;
     report::series(rt, answer);
-    report::list(rt, list, buckets_of(answer));
-}
-
-// The number of buckets; none on a refusal.
-fn buckets_of(answer: Result<Plan, Refusal>) -> usize {
-    match answer {
-        Ok(plan) => plan.buckets as usize,
-        Err(_) => 0,
-    }
+    // none on a refusal
+    let buckets = answer.map_or(0, |plan| plan.buckets as usize);
+    report::list(rt, list, buckets);
 }

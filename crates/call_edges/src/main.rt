@@ -8,7 +8,7 @@ mod answers;
 mod meters;
 mod million;
 
-use cases::{field, first};
+use cases::{each_line, field, first};
 use console::{INPUT_ROOM, Program};
 
 fn main(rt: HostRuntime) {
@@ -18,15 +18,9 @@ fn main(rt: HostRuntime) {
         errors: &rt.stderr(),
     };
     let length = program.read(&rt, &mut input);
-    each_case(&rt, &input[..length]);
+    each_line(&input[..length], |line| case(&rt, line));
     million::offers_until_full(&rt);
     million::runs(&rt);
-}
-
-fn each_case(rt: &impl Print, input: &[u8]) {
-    for line in input.split(|&byte| byte == b'\n') {
-        case(rt, line);
-    }
 }
 
 fn case(rt: &impl Print, line: &[u8]) {

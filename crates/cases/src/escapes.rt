@@ -2,58 +2,46 @@
 // a bar; a backslash before any other byte, as in \\, stands for that byte.
 ghost use Rattle.std.specs.Prelude.{◌≤◌};
 
+use std::slice::Iter;
+
 // As long as a text may be.
 pub const PLAIN_ROOM: usize = 256;
 
-// Stores what a field stands for, and gives its length.
-pub fn plain(field: &[u8], room: &mut [u8; PLAIN_ROOM]) -> usize {
+// Stores what a field stands for, and gives the part that it fills.
+pub fn plain<'a>(field: &[u8], room: &'a mut [u8; PLAIN_ROOM]) -> &'a [u8] {
     let mut filled = 0;
-    let mut passed: u8 = 0;
-    for (i, &byte) in field.iter().enumerate() {
-        if 0 < passed {
-            passed -= 1;
-            continue;
-        }
-        let next = behind(field, i, 1);
-        if filled < PLAIN_ROOM {
-            room[filled] = byte_of(byte, next, behind(field, i, 2), behind(field, i, 3));
-            filled += 1;
-        }
-        passed = width(byte, next);
+    let mut bytes = field.iter();
+    for (i, place) in room.iter_mut().enumerate() {
+        let Some(&byte) = bytes.next() else {
+            break;
+        };
+        *place = if byte == b'\\' {
+            escaped(&mut bytes)
+        } else {
+            byte
+        };
+        filled = i + 1;
     }
-    filled
+    &room[..filled.min(PLAIN_ROOM)]
 }
 
-// The bytes that were stored.
-pub fn plain_text(room: &[u8; PLAIN_ROOM], length: usize) -> &[u8] {
-    &room[..length.min(PLAIN_ROOM)]
-}
-
-// The byte that stands so far behind a place; 0 where there is none.
-fn behind(field: &[u8], place: usize, by: usize) -> u8 {
-    field.iter().skip(place).nth(by).copied().unwrap_or(0)
-}
-
-// How many bytes more an escape has; none where there is no escape.
-fn width(byte: u8, next: u8) -> u8 {
-    if byte != b'\\' {
-        return 0;
-    }
-    if next == b'x' { 3 } else { 1 }
-}
-
-// What a byte stands for, with the three behind it.
-fn byte_of(byte: u8, next: u8, high: u8, low: u8) -> u8 {
-    if byte != b'\\' {
-        return byte;
-    }
-    match next {
+// What the bytes behind a backslash stand for; those that are missing count as 0.
+fn escaped(bytes: &mut Iter<'_, u8>) -> u8 {
+    match next(bytes) {
         b'n' => b'\n',
         b'r' => b'\r',
         b't' => b'\t',
-        b'x' => (digit(high) * 16 + digit(low)) as u8,
-        _ => next,
+        b'x' => {
+            let high = digit(next(bytes));
+            (high * 16 + digit(next(bytes))) as u8
+        }
+        other => other,
     }
+}
+
+// The next byte; 0 where there is none.
+fn next(bytes: &mut Iter<'_, u8>) -> u8 {
+    bytes.next().copied().unwrap_or(0)
 }
 
 // What a digit of base 16 stands for; 0 for any other byte.

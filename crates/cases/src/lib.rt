@@ -10,9 +10,9 @@ mod parts;
 mod tariffs;
 mod traces;
 
-pub use escapes::{PLAIN_ROOM, plain, plain_text};
+pub use escapes::{PLAIN_ROOM, plain};
 pub use files::file_of;
 pub use numbers::{figure, large, number};
-pub use parts::{field, first};
+pub use parts::{each_line, field, first};
 pub use tariffs::{bucket_of, factor_of, tariff_of};
-pub use traces::{DEMANDS, demands, trace};
+pub use traces::{DEMANDS, trace};

@@ -5,8 +5,8 @@ const PERIODS: usize = 512;
 
 // Scenes of 32 periods, each with a demand of its own and a peak in every seventh period.
 pub fn scenes(room: &mut [u16; DEMANDS]) -> usize {
-    for i in 0..PERIODS {
-        room[i] = demand(i / 32, i % 7);
+    for (i, place) in room.iter_mut().take(PERIODS).enumerate() {
+        *place = demand(i / 32, i % 7);
     }
     PERIODS
 }
@@ -22,8 +22,8 @@ fn demand(scene: usize, step: usize) -> u16 {
 // A trace like a feature's: scenes of 8 to 40 periods, each of a size of its own, and pictures in
 // groups of 12.
 pub fn feature(room: &mut [u16; DEMANDS]) -> usize {
-    for i in 0..PERIODS {
-        room[i] = picture(i / 40 + i / 56, i % 12, i * 7919 % 997);
+    for (i, place) in room.iter_mut().take(PERIODS).enumerate() {
+        *place = picture(i / 40 + i / 56, i % 12, i * 7919 % 997);
     }
     PERIODS
 }
@@ -43,8 +43,8 @@ fn picture(scene: usize, step: usize, varied: usize) -> u16 {
 
 // Demands in no order, from 0 to the greatest.
 pub fn uneven(room: &mut [u16; DEMANDS]) -> usize {
-    for i in 0..PERIODS {
-        room[i] = (i * 24_691 % 65_536) as u16;
+    for (i, place) in room.iter_mut().take(PERIODS).enumerate() {
+        *place = (i * 24_691 % 65_536) as u16;
     }
     room[1] = 255;
     room[2] = 256;

@@ -1,10 +1,12 @@
 // A text in parts: the fields of a line, the words of a field.
-// How many words a field has; none where it is empty.
-pub fn words(field: &[u8]) -> usize {
-    if field.is_empty() {
-        return 0;
+
+// Has each line of the input looked at, the last one too where no newline ends it.
+pub fn each_line<F: Fn(&[u8])>(input: &[u8], look: F)
+    requires { F.IsAlwaysCallable look }
+{
+    for line in input.split(|&byte| byte == b'\n') {
+        look(line);
     }
-    field.split(|&byte| byte == b' ').count()
 }
 
 // A field of a line; the first is field 0.

@@ -1,10 +1,9 @@
 // One check: an order and a plan, what is said of them, and the line of it in a text with so much room.
-use crate::joined::{JOINED_BYTES, joined, put_files};
-use cases::{DEMANDS, demands, field, figure, file_of, tariff_of, trace};
+use crate::joined::{JOINED_BYTES, joined};
+use cases::{DEMANDS, field, figure, file_of, tariff_of, trace};
 use checking::{Verdict, check, check_files, check_line};
 use list_calls::book_on;
 use order_file::write_order;
-use recording::Booking;
 use samples::demands::LENT_DEMAND;
 use samples::file_bytes::{LENT, LENT_BYTES, front, is_lent, lent_front};
 use samples::lent_records::{ENTRIES, filled};
@@ -19,15 +18,15 @@ pub fn check_case(rt: &impl Print, line: &[u8]) {
 // A case: an order of some tariff and trace, and the first bytes of a plan of some words.
 pub fn plan_case(rt: &impl Print, line: &[u8]) {
     let mut order = [LENT; LENT_BYTES];
-    let length = put_order(line, &mut order);
-    with_plan(rt, line, front(&order, length));
+    with_plan(rt, line, put_order(line, &mut order));
 }
 
-// Stores the order of a case's tariff and trace, and gives its length.
-fn put_order(line: &[u8], file: &mut [u8]) -> usize {
+// Stores the order of a case's tariff and trace, and gives the part that it fills.
+fn put_order<'a>(line: &[u8], file: &'a mut [u8; LENT_BYTES]) -> &'a [u8] {
     let mut room = [0u16; DEMANDS];
-    let count = trace(field(line, 4), &mut room);
-    report::filled_of(write_order(tariff_of(field(line, 3)), demands(&room, count), file))
+    let trace = trace(field(line, 4), &mut room);
+    let answer = write_order(tariff_of(field(line, 3)), trace, file);
+    front(file, report::filled_of(answer))
 }
 
 fn with_plan(rt: &impl Print, line: &[u8], order: &[u8]) {
@@ -43,8 +42,7 @@ fn with_plan(rt: &impl Print, line: &[u8], order: &[u8]) {
 // A case: an order of some tariff and trace, and the plan that booking it records.
 pub fn booked_case(rt: &impl Print, line: &[u8]) {
     let mut order = [LENT; LENT_BYTES];
-    let length = put_order(line, &mut order);
-    with_own(rt, line, front(&order, length));
+    with_own(rt, line, put_order(line, &mut order));
 }
 
 fn with_own(rt: &impl Print, line: &[u8], order: &[u8]) {
@@ -60,15 +58,9 @@ fn with_own(rt: &impl Print, line: &[u8], order: &[u8]) {
         ENTRIES,
     )
     .answer;
-    named(rt, line, order, front(&plan, length_of(answer)));
-}
-
-// The length of a plan's file; 0 on a refusal.
-fn length_of(answer: Result<Booking, Refusal>) -> usize {
-    match answer {
-        Ok(x) => x.length,
-        Err(_) => 0,
-    }
+    // 0 where none is booked
+    let length = answer.map_or(0, |x| x.length);
+    named(rt, line, order, front(&plan, length));
 }
 
 // The name of a case, the verdict, and the lines of it.
@@ -96,9 +88,11 @@ fn print_lines(rt: &impl Print, order: &[u8], plan: &[u8], room: usize) {
     let answer = check_line(order, plan, lent_front(&mut text, room));
     print_line(rt, answer, &text);
     let mut files = [0u8; JOINED_BYTES];
-    let length = put_files(&mut files, order, plan);
     let mut other = [LENT; LENT_BYTES];
-    let same = check_files(joined(&files, length), lent_front(&mut other, room));
+    let same = check_files(
+        joined(&mut files, order, plan),
+        lent_front(&mut other, room),
+    );
     report::words(rt, b", files");
     print_line(rt, same, &other);
     report::kept(

@@ -6,7 +6,7 @@
 mod checks;
 mod joined;
 
-use cases::first;
+use cases::{each_line, first};
 use console::{INPUT_ROOM, Program};
 
 fn main(rt: HostRuntime) {
@@ -16,13 +16,7 @@ fn main(rt: HostRuntime) {
         errors: &rt.stderr(),
     };
     let length = program.read(&rt, &mut input);
-    each_case(&rt, &input[..length]);
-}
-
-fn each_case(rt: &impl Print, input: &[u8]) {
-    for line in input.split(|&byte| byte == b'\n') {
-        case(rt, line);
-    }
+    each_line(&input[..length], |line| case(&rt, line));
 }
 
 fn case(rt: &impl Print, line: &[u8]) {

@@ -2,7 +2,7 @@
 // offered. The rows of depth, single bucket, series and trial stand in the file stdin, which says its form.
 #![tactic(auto)]
 
-use cases::{DEMANDS, bucket_of, demands, factor_of, field, figure, first, tariff_of, trace};
+use cases::{DEMANDS, bucket_of, each_line, factor_of, field, figure, first, tariff_of, trace};
 use console::{INPUT_ROOM, Program};
 use list_calls::series_on;
 use metqoraz::{BucketRecord, LONGEST_FIGURE, Rate, Tariff};
@@ -16,15 +16,9 @@ fn main(rt: HostRuntime) {
         errors: &rt.stderr(),
     };
     let length = program.read(&rt, &mut input);
-    each_case(&rt, &input[..length]);
+    each_line(&input[..length], |line| case(&rt, line));
     row_j(&rt);
     row_l(&rt);
-}
-
-fn each_case(rt: &impl Print, input: &[u8]) {
-    for line in input.split(|&byte| byte == b'\n') {
-        case(rt, line);
-    }
 }
 
 // A row: its name, and the answer.
@@ -34,10 +28,10 @@ fn case(rt: &impl Print, line: &[u8]) {
         return;
     }
     let mut room = [0u16; DEMANDS];
-    let count = trace(field(line, 3), &mut room);
+    let trace = trace(field(line, 3), &mut room);
     report::words(rt, field(line, 1));
     let rate = Rate(figure(field(line, 4), 0));
-    answer(rt, kind, field(line, 2), demands(&room, count), rate);
+    answer(rt, kind, field(line, 2), trace, rate);
 }
 
 fn answer(rt: &impl Print, kind: u8, figures: &[u8], trace: &[u16], rate: Rate) {

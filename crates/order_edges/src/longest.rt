@@ -1,14 +1,13 @@
 // Orders around the longest, and a file of a megabyte.
 use crate::readings::reading;
 use crate::written::{cut, written};
-use cases::{DEMANDS, demands, trace};
+use cases::{DEMANDS, trace};
 use order_file::LONGEST_ORDER;
 
 // The longest order, one byte less and one more; and a file for 513 periods, right but for that.
 pub fn edges(rt: &impl Print) {
     let mut room = [0u16; DEMANDS];
-    let count = trace(b"uneven", &mut room);
-    let mut bytes = written(rt, demands(&room, count));
+    let mut bytes = written(rt, trace(b"uneven", &mut room));
     cut(rt, bytes, LONGEST_ORDER - 1);
     cut(rt, bytes, LONGEST_ORDER + 1);
     bytes[4] = 1;

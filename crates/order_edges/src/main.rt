@@ -10,7 +10,7 @@ mod readings;
 mod spreads;
 mod written;
 
-use cases::{field, figure, first};
+use cases::{each_line, field, figure, first};
 use console::{INPUT_ROOM, Program};
 
 fn main(rt: HostRuntime) {
@@ -21,15 +21,9 @@ fn main(rt: HostRuntime) {
         errors: &rt.stderr(),
     };
     let length = program.read(&rt, &mut input);
-    each_case(&rt, &input[..length]);
+    each_line(&input[..length], |line| case(&rt, line));
     longest::edges(&rt);
     longest::megabyte(&rt);
-}
-
-fn each_case(rt: &impl Print, input: &[u8]) {
-    for line in input.split(|&byte| byte == b'\n') {
-        case(rt, line);
-    }
 }
 
 fn case(rt: &impl Print, line: &[u8]) {

@@ -2,7 +2,7 @@
 use crate::demands::{is_front, print_length, print_list};
 use crate::entries;
 use crate::readings::reading;
-use cases::{DEMANDS, demands, field, tariff_of, trace};
+use cases::{DEMANDS, field, tariff_of, trace};
 use order_file::{spread, trace_part, write_order};
 use samples::demands::LENT_DEMAND;
 use samples::file_bytes::{LENT, LENT_BYTES, front, lent_front};
@@ -13,11 +13,11 @@ use terms::Tariff;
 // An order written into so many bytes.
 pub fn write_case(rt: &impl Print, line: &[u8]) {
     let mut room = [0u16; DEMANDS];
-    let count = trace(field(line, 2), &mut room);
+    let trace = trace(field(line, 2), &mut room);
     write(
         rt,
         tariff_of(field(line, 1)),
-        demands(&room, count),
+        trace,
         entries(field(line, 3)),
     );
 }
@@ -36,8 +36,8 @@ fn write(rt: &impl Print, tariff: Tariff, trace: &[u16], lent: usize) {
 // An order in three lines: written, its file read, and its trace's part spread.
 pub fn file_case(rt: &impl Print, line: &[u8]) {
     let mut room = [0u16; DEMANDS];
-    let count = trace(field(line, 1), &mut room);
-    file(rt, demands(&room, count), entries(field(line, 2)));
+    let trace = trace(field(line, 1), &mut room);
+    file(rt, trace, entries(field(line, 2)));
 }
 
 fn file(rt: &impl Print, trace: &[u16], length: usize) {

@@ -1,6 +1,6 @@
 // An order of 512 periods where each has its own bucket, and the file of 513.
 use crate::service_texts::services;
-use cases::{DEMANDS, bucket_of, demands, tariff_of, trace};
+use cases::{DEMANDS, bucket_of, tariff_of, trace};
 use order_file::{LONGEST_ORDER, write_order};
 use samples::file_bytes::{LENT, LENT_BYTES, front};
 use samples::tariffs::with_fee;
@@ -15,9 +15,9 @@ pub fn edges(rt: &impl Print) {
 // The order's bytes with these prices, the feature being the trace.
 fn feature_order(tariff: Tariff) -> [u8; LENT_BYTES] {
     let mut room = [0u16; DEMANDS];
-    let count = trace(b"feature", &mut room);
+    let trace = trace(b"feature", &mut room);
     let mut file = [LENT; LENT_BYTES];
-    let _ = write_order(tariff, demands(&room, count), &mut file);
+    let _ = write_order(tariff, trace, &mut file);
     file
 }
 

@@ -9,7 +9,7 @@ mod long;
 mod refusals;
 mod service_texts;
 
-use cases::first;
+use cases::{each_line, first};
 use console::{INPUT_ROOM, Program};
 
 fn main(rt: HostRuntime) {
@@ -19,15 +19,9 @@ fn main(rt: HostRuntime) {
         errors: &rt.stderr(),
     };
     let length = program.read(&rt, &mut input);
-    each_case(&rt, &input[..length]);
+    each_line(&input[..length], |line| case(&rt, line));
     damaged::edges(&rt);
     long::edges(&rt);
-}
-
-fn each_case(rt: &impl Print, input: &[u8]) {
-    for line in input.split(|&byte| byte == b'\n') {
-        case(rt, line);
-    }
 }
 
 fn case(rt: &impl Print, line: &[u8]) {

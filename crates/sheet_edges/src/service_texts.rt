@@ -1,13 +1,13 @@
 // One order: what each service writes of it into a text with so much room.
-use cases::{DEMANDS, bucket_of, demands, field, figure, tariff_of, trace};
+use cases::{DEMANDS, bucket_of, field, figure, tariff_of, trace};
 use order_file::write_order;
 use samples::file_bytes::{LENT, LENT_BYTES, front, is_lent, lent_front};
-use terms::{Bucket, Rate, Refusal, Tariff};
+use terms::{Bucket, Refusal, Tariff};
 
 // A case: its name in a line of its own, where it has one, and the texts.
 pub fn services_case(rt: &impl Print, line: &[u8]) {
     let mut room = [0u16; DEMANDS];
-    let count = trace(field(line, 3), &mut room);
+    let trace = trace(field(line, 3), &mut room);
     let name = field(line, 1);
     if 0 < name.len() {
         report::words(rt, name);
@@ -16,7 +16,7 @@ pub fn services_case(rt: &impl Print, line: &[u8]) {
     services_of(
         rt,
         tariff_of(field(line, 2)),
-        demands(&room, count),
+        trace,
         bucket_of(field(line, 4)),
         figure(field(line, 5), 0) as usize,
     );
@@ -35,52 +35,39 @@ pub fn services(rt: &impl Print, order: &[u8], bucket: Bucket, room: usize) {
     report::figure(rt, b"sheet in", room as u64);
     sheet_in(rt, order, room);
     report::figure(rt, b"single in", room as u64);
-    single_in(rt, order, room);
+    service_in(rt, room, |text| services::single_line(order, text));
     report::figure(rt, b"trial of", bucket.rate.0 as u64);
     report::number(rt, bucket.depth.0 as u64);
     report::figure(rt, b" in", room as u64);
-    trial_in(rt, order, bucket, room);
+    service_in(rt, room, |text| services::trial_line(order, bucket, text));
     report::figure(rt, b"depth in", room as u64);
-    depth_in(rt, order, bucket.rate, room);
+    service_in(
+        rt,
+        room,
+        |text| services::depth_line(order, bucket.rate, text),
+    );
     report::figure(rt, b"from the end in", room as u64);
-    depth_from_end_in(rt, order, bucket.rate, room);
+    service_in(rt, room, |text| {
+        services::depth_from_end_line(order, bucket.rate, text)
+    });
     report::figure(rt, b"cause in", room as u64);
-    cause_in(rt, order, bucket.rate, room);
+    service_in(
+        rt,
+        room,
+        |text| services::explain_line(order, bucket.rate, text),
+    );
 }
 
 pub fn sheet_in(rt: &impl Print, order: &[u8], room: usize) {
-    let mut text = [LENT; LENT_BYTES];
-    let answer = sheets::sheet(order, lent_front(&mut text, room));
-    print(rt, answer, &text);
+    service_in(rt, room, |text| sheets::sheet(order, text));
 }
 
-fn single_in(rt: &impl Print, order: &[u8], room: usize) {
+// What a service makes of a text with so much room.
+fn service_in<F: Fn(&mut [u8]) -> Result<usize, Refusal>>(rt: &impl Print, room: usize, service: F)
+    requires { F.IsAlwaysCallable service }
+{
     let mut text = [LENT; LENT_BYTES];
-    let answer = services::single_line(order, lent_front(&mut text, room));
-    print(rt, answer, &text);
-}
-
-fn trial_in(rt: &impl Print, order: &[u8], bucket: Bucket, room: usize) {
-    let mut text = [LENT; LENT_BYTES];
-    let answer = services::trial_line(order, bucket, lent_front(&mut text, room));
-    print(rt, answer, &text);
-}
-
-fn depth_in(rt: &impl Print, order: &[u8], rate: Rate, room: usize) {
-    let mut text = [LENT; LENT_BYTES];
-    let answer = services::depth_line(order, rate, lent_front(&mut text, room));
-    print(rt, answer, &text);
-}
-
-fn depth_from_end_in(rt: &impl Print, order: &[u8], rate: Rate, room: usize) {
-    let mut text = [LENT; LENT_BYTES];
-    let answer = services::depth_from_end_line(order, rate, lent_front(&mut text, room));
-    print(rt, answer, &text);
-}
-
-fn cause_in(rt: &impl Print, order: &[u8], rate: Rate, room: usize) {
-    let mut text = [LENT; LENT_BYTES];
-    let answer = services::explain_line(order, rate, lent_front(&mut text, room));
+    let answer = service(lent_front(&mut text, room));
     print(rt, answer, &text);
 }
 

@@ -10,13 +10,12 @@ pub fn into(rt: &impl Print, name: &[u8], text: &[u8], lent: usize) {
     report::words(rt, name);
     report::words(rt, b":");
     print(rt, answer);
-    // 0 where none is written
-    let length = answer.unwrap_or(0);
-    if 0 < length {
+    if let Ok(length) = answer {
         report::words(rt, b" checksum");
         report::number(rt, checksum(&bytes, length) as u64);
     }
-    report::kept(rt, is_lent(&bytes, length));
+    // 0 where none is written
+    report::kept(rt, is_lent(&bytes, answer.unwrap_or(0)));
 }
 
 pub fn print(rt: &impl Print, answer: Result<usize, TextError>) {

@@ -1,7 +1,7 @@
 // Every byte there is, in one place of a text. Most are faults at their own place; what the others give
 // is printed.
 use crate::answers::print;
-use cases::{PLAIN_ROOM, plain_text};
+use cases::PLAIN_ROOM;
 use order_text::{Fault, Reason, TextError, order_of_text};
 use samples::file_bytes::{FILE_ROOM, LENT};
 
@@ -11,17 +11,22 @@ const BYTES: u32 = 256;
 // The place: between two demands in the second line.
 const PLACE: usize = 15;
 
-pub fn each_byte(rt: &impl Print, text: [u8; PLAIN_ROOM], length: usize) {
+pub fn each_byte(rt: &impl Print, text: &[u8]) {
     for byte in 0..BYTES {
-        between(rt, text, length, byte as u8);
+        between(rt, text, byte as u8);
     }
 }
 
-fn between(rt: &impl Print, text: [u8; PLAIN_ROOM], length: usize, byte: u8) {
-    let mut changed = text;
-    changed[PLACE] = byte;
+fn between(rt: &impl Print, text: &[u8], byte: u8) {
+    let mut room = [0u8; PLAIN_ROOM];
+    let length = text.len().min(PLAIN_ROOM);
+    let changed = &mut room[..length];
+    changed.copy_from_slice(&text[..length]);
+    if PLACE < length {
+        changed[PLACE] = byte;
+    }
     let mut file = [LENT; FILE_ROOM];
-    let answer = order_of_text(plain_text(&changed, length), &mut file);
+    let answer = order_of_text(changed, &mut file);
     if is_fault_there(answer) {
         return;
     }

@@ -10,7 +10,7 @@ mod counts;
 mod places;
 mod words;
 
-use cases::{PLAIN_ROOM, field, first, number, plain, plain_text};
+use cases::{PLAIN_ROOM, each_line, field, first, number, plain};
 use console::{INPUT_ROOM, Program};
 use samples::file_bytes::LENT_BYTES;
 
@@ -21,13 +21,7 @@ fn main(rt: HostRuntime) {
         errors: &rt.stderr(),
     };
     let length = program.read(&rt, &mut input);
-    each_case(&rt, &input[..length]);
-}
-
-fn each_case(rt: &impl Print, input: &[u8]) {
-    for line in input.split(|&byte| byte == b'\n') {
-        case(rt, line);
-    }
+    each_line(&input[..length], |line| case(&rt, line));
 }
 
 // One case, told by its first letter; a text is the last field.
@@ -35,13 +29,12 @@ fn case(rt: &impl Print, line: &[u8]) {
     let kind = first(line);
     let last = if kind == b't' { 3 } else { 1 };
     let mut typed = [0u8; PLAIN_ROOM];
-    let length = plain(field(line, last), &mut typed);
-    let text = plain_text(&typed, length);
+    let text = plain(field(line, last), &mut typed);
     match kind {
         b't' => answers::into(rt, field(line, 1), text, room(field(line, 2))),
         b'p' => places::every_place(rt, text),
         b'f' => places::fault(rt, text),
-        b'b' => bytes::each_byte(rt, typed, length),
+        b'b' => bytes::each_byte(rt, text),
         b'd' => counts::first_bytes(rt, text, room(field(line, 2))),
         b'w' => words::print_number(rt, text),
         b'#' => {}

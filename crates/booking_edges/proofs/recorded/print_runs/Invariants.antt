@@ -2,5 +2,5 @@
 use Rattle.std.proofs.Common.{◌≤◌}
 use Rattle.booking_edges.proofs.recorded.print_runs.Given as goal
 
-abbrev pub invariant-loop-i : goal.invariant-loop-i
-invariant-loop-i g l = l.start ≤ 516
+abbrev pub invariant-loop-record : goal.invariant-loop-record
+invariant-loop-record g l = l.start ≤ 516
