@@ -26,7 +26,12 @@ fn typed(field: &[u8], room: &mut [u16]) -> usize {
     for word in field.split(|&byte| byte == b' ') {
         let mut parts = word.split(|&byte| byte == b'*');
         count = match (parts.next(), parts.next()) {
-            (Some(times), Some(demand)) => stored(room, count, small(times), small(demand)),
+            (Some(times), Some(demand)) if !demand.is_empty() => stored(
+                room,
+                count,
+                small(times),
+                small(demand),
+            ),
             _ => stored(room, count, 1, small(word)),
         };
     }
