@@ -12,7 +12,7 @@ use recording::recorded::record_plan;
 use terms::Refusal;
 
 // A booking, with the order, the records of the plan found and those read back.
-#[derive(Drop)]
+#[derive(Clone, Copy)]
 pub struct BookedRecords {
     pub booking: Booking,
     pub order: Ordered,

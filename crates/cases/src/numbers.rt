@@ -1,4 +1,6 @@
 // Decimal numbers in a field.
+ghost use Rattle.std.specs.Prelude.{◌≤◌};
+
 use crate::parts::part;
 
 // A word of digits as a number; as great as 8 bytes hold where it is greater. No digits are 0.
@@ -10,7 +12,9 @@ pub fn number(word: &[u8]) -> u64 {
 }
 
 // What a digit stands for; 0 for any other byte.
-fn digit(byte: u8) -> u64 {
+fn digit(byte: u8) -> u64
+    ensures { result ≤ 9 }
+{
     match byte {
         b'0'..=b'9' => (byte - b'0') as u64,
         _ => 0,

@@ -7,7 +7,7 @@
 pub use terms::{
     Bucket, BucketRecord, Depth, DepthPrice, Factor, Rate, RatePrice, Refusal, Tariff,
     bucket_in_range, factor_in_range, fresh_in_range, periods_in_range, record_in_range,
-    tariff_in_range,
+    refusal_number, tariff_in_range,
 };
 
 // A bucket on a trace, and a bucket metered period by period.
@@ -42,7 +42,7 @@ pub use sheets::{LONGEST_SHEET, sheet};
 pub use text::{LONGEST_FIGURE, LONGEST_REFUSAL, megabits, refusal_line};
 
 // Typed text: an order's figures, the word around a fault, and one number.
-pub use order_text::{Fault, Reason, TextError, order_of_text, word_around};
+pub use order_text::{Fault, Reason, TextError, order_of_text, refusal_of, word_around};
 pub use typed_figures::{limit_of, number_of};
 
 // For programs in C and Rust, on numbers and slices.

@@ -1,9 +1,10 @@
 -- What reading an order and spreading its trace gives and leaves: the order's own figures,
 -- and as many demands as its T.
 -- Assumes nothing.
-use Rattle.std.specs.Prelude.{ℕ, ◌/◌, ◌≤◌, ◌≡◌, refl, false, List, take}
+use Rattle.std.specs.Prelude.{ℕ, ◌/◌, ◌≤◌, ◌≡◌, refl, false, List, take, drop}
 use Rattle.std.proofs.Common.{arith, ap₂, subst, ◌∙◌, length-take}
 use Rattle.std.proofs.Math.Path.{sym, ap}
+use Rattle.std.proofs.Math.Seq.{drop-append_seam}
 use Rattle.std.proofs.Math.Dec.{leb}
 use Rattle.std.proofs.Math.ListN.{length}
 use Rattle.terms.specs.Answer.{Answer, figures, refused, on_figures}
@@ -108,12 +109,21 @@ module _ (bs demands demands' : List ℕ) (found : Answer Order) (p : SpreadsOrd
   count-is : o.periods ≡ length order_as.demands
   count-is = ap (λ (z : Order). z.periods) (sym found-order.2) ∙ sym (ordered-count order_is)
 
+  filled-is : demands' ≡ filled (figures order_as.demands) demands
+  filled-is = p.spreads ∙ ap (λ (a : Answer Ordered). filled (on_figures (λ x. x.demands) a) demands) found-order.1
+
   -- the T numbers spread
   pub demands_are : take o.periods demands' ≡ order_as.demands
   demands_are =
-      ap (λ (n : ℕ). take n demands') count-is
-      ∙ ap (take (length order_as.demands)) (p.spreads ∙ ap (λ (a : Answer Ordered). filled (on_figures (λ x. x.demands) a) demands) found-order.1)
+      ap (λ (n : ℕ). take n demands') count-is ∙ ap (take (length order_as.demands)) filled-is
       ∙ filled-front order_as.demands demands
+
+  -- behind them all is as it was
+  pub demands-rest : drop o.periods demands' ≡ drop o.periods demands
+  demands-rest =
+      ap (λ (n : ℕ). drop n demands') count-is ∙ ap (drop (length order_as.demands)) filled-is
+      ∙ drop-append_seam order_as.demands (drop (length order_as.demands) demands)
+      ∙ ap (λ (n : ℕ). drop n demands) (sym count-is)
 
   pub demands-count : length (take o.periods demands') ≡ o.periods
   demands-count = ap length demands_are ∙ sym count-is

@@ -11,15 +11,19 @@ use terms::Refusal;
 use terms::limits::TRACE_LIMIT;
 
 // What an order says, with the numbers of its trace at the front of an array.
-#[derive(Drop)]
+#[derive(Clone, Copy)]
 pub struct Ordered {
     order: Order,
     demands: [u16; TRACE_LIMIT],
 }
 
-// Contracts see what the order says and the numbers of its trace.
+// Contracts see what the order says and the numbers of its trace. What lies behind these is zeros.
 impl Model for Ordered {
-    ghost use Rattle.std.specs.Prelude.{◌≤◌, take};
+    ghost use Rattle.std.specs.Prelude.{◌≤◌, ◌≡◌, drop, length, replicate, take};
+    ghost use Rattle.std.proofs.Common.{arith, length-take-le};
+    ghost use Rattle.terms.specs.Answer.{figures};
+    ghost use Rattle.terms.specs.Lent.{filled};
+    ghost use Rattle.terms.specs.LentLaws.{front-fills};
     ghost use Rattle.terms.specs.Limits.{trace_limit};
     ghost use Rattle.order_file.specs.Ordered.{Ordered};
 
@@ -27,7 +31,15 @@ impl Model for Ordered {
 
     ghost view = { λ a. record { order = a.order; demands = take a.order.periods a.demands } };
 
-    ghost invariant = { λ a. a.order.periods ≤ trace_limit };
+    ghost invariant = { λ a. (a.order.periods ≤ trace_limit) × (length a.demands ≡ trace_limit)
+        × (drop a.order.periods a.demands ≡ drop a.order.periods (replicate trace_limit 0)) };
+
+    ghost inverse = { λ o. record { order = o.order; demands = filled (figures o.demands) (replicate trace_limit 0) } };
+
+    ghost inverse_ok = { λ a h i. record {
+        order = a.order;
+        demands = front-fills a.order.periods a.demands _ (omega (arith, h.0, h.1)) h.2 i;
+    } };
 }
 
 impl Ordered {

@@ -43,6 +43,13 @@ impl From<Reason> for Refusal {
     }
 }
 
+// The same as a call.
+pub fn refusal_of(reason: Reason) -> Refusal
+    ensures { number_of result ≡ reason_number reason }
+{
+    Refusal::from(reason)
+}
+
 // Why a text gives no order file.
 #[derive(Clone, Copy)]
 pub enum TextError {

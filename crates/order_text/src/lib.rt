@@ -11,6 +11,6 @@ mod scan;
 mod typed_orders;
 mod words;
 
-pub use faults::{Fault, Reason, TextError};
+pub use faults::{Fault, Reason, TextError, refusal_of};
 pub use typed_orders::order_of_text;
 pub use words::word_around;

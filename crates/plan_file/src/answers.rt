@@ -13,7 +13,7 @@ pub struct PlanFigures {
 }
 
 // Recorded, document 01's term: what reading a plan gives.
-#[derive(Drop)]
+#[derive(Clone, Copy)]
 pub struct Recorded {
     pub periods: u32,
     pub cost: u64,

@@ -11,7 +11,7 @@ use series::planner::plan_series;
 use terms::Refusal;
 
 // An order with its trace, the plan found for it, and the plan's records.
-#[derive(Drop)]
+#[derive(Clone, Copy)]
 pub struct PlannedOrder {
     pub order: Ordered,
     pub plan: Plan,

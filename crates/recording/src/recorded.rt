@@ -21,7 +21,7 @@ pub struct Booking {
 }
 
 // What recording a plan gives: the booking, and the records read back.
-#[derive(Drop)]
+#[derive(Clone, Copy)]
 pub struct BookingRecords {
     pub booking: Booking,
     pub records: Records,

@@ -9,7 +9,7 @@ pub struct Plan {
 }
 
 // A plan found, with its records.
-#[derive(Drop)]
+#[derive(Clone, Copy)]
 pub struct SeriesRecords {
     pub plan: Plan,
     pub records: Records,

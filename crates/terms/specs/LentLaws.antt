@@ -1,7 +1,7 @@
 -- A filled list begins with what fills it and is as long as it was.
 -- Assumes nothing.
-use Rattle.std.specs.Prelude.{ℕ, ◌≤◌, ◌≡◌, List, length, take, drop}
-use Rattle.std.proofs.Common.{arith, sym, ap, ◌∙◌, length-take, length-take-le}
+use Rattle.std.specs.Prelude.{ℕ, ◌≤◌, ◌≡◌, ◌++◌, List, length, take, drop}
+use Rattle.std.proofs.Common.{arith, sym, ap, ◌∙◌, length-take, length-take-le, take-append-drop}
 use Rattle.std.proofs.Math.Seq.{take-append_seam, length_front}
 use Rattle.terms.specs.Answer.{Answer, figures, on_figures}
 use Rattle.terms.specs.AnswerLaws.{on_figures_lem}
@@ -14,6 +14,13 @@ filled-front xs old = take-append_seam xs (drop (length xs) old)
 -- A list with room for what fills it keeps its length.
 pub filled-length : {A : Type 0} (xs old : List A) → length xs ≤ length old → length (filled (figures xs) old) ≡ length old
 filled-length xs old l = length_front old xs (length xs) (sym (length-take-le (length xs) old l))
+
+-- A list with another's entries behind its front is that other one, filled by the front.
+pub front-fills : {A : Type 0} (n : ℕ) (new old : List A) → n ≤ length new → drop n new ≡ drop n old
+    → filled (figures (take n new)) old ≡ new
+front-fills {A} n new old l e =
+    ap (λ (m : ℕ). take n new ++ drop m old) (length-take-le n new l)
+    ∙ ap (λ (xs : List A). take n new ++ xs) (sym e) ∙ take-append-drop n new
 
 -- What fills the front of a list, read off it: as many entries as there are.
 module _ (a : Answer (List ℕ)) (old new : List ℕ) (n : ℕ) (e : figures n ≡ on_figures length a) (f : new ≡ filled a old) where

@@ -10,7 +10,7 @@ pub use ranges::{
     bucket_in_range, factor_in_range, fresh_in_range, periods_in_range, record_in_range,
     tariff_in_range,
 };
-pub use refusal::Refusal;
+pub use refusal::{Refusal, refusal_number};
 
 // Tokens gained in each period. One token pays for one kilobit.
 #[derive(Clone, Copy, PartialEq, Eq)]

@@ -45,3 +45,10 @@ impl From<Refusal> for u32 {
         }
     }
 }
+
+// The same as a call.
+pub fn refusal_number(x: Refusal) -> u32
+    ensures { result ≡ number_of x }
+{
+    u32::from(x)
+}
