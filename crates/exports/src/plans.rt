@@ -17,7 +17,8 @@ use terms::limits::TRACE_LIMIT;
 pub fn metqoraz_series(order: &[u8]) -> u64
     ensures { result ≡ coded (planned_cost order.now) }
 {
-    plan_order(order, TRACE_LIMIT, TRACE_LIMIT).map_or_else(coded_refusal, |x| x.plan.cost)
+    plan_order(order, TRACE_LIMIT, TRACE_LIMIT)
+        .map_or_else(|x| coded_refusal(x.why), |x| x.plan.cost)
 }
 
 // Writes the file of the cheapest plan for an order into the front of the bytes and answers its
@@ -28,7 +29,7 @@ pub fn metqoraz_book(order: &[u8], plan: &mut [u8]) -> u64
 {
     let planned = match plan_order(order, TRACE_LIMIT, TRACE_LIMIT) {
         Ok(x) => x,
-        Err(why) => return coded_refusal(why),
+        Err(x) => return coded_refusal(x.why),
     };
     let order = planned.order;
     let records = planned.records;

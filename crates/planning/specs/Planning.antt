@@ -1,12 +1,14 @@
 -- From an order file to the series planned for it, on what is lent (01, "Series": the first calls of demand 3).
 -- Assumes nothing.
-use Rattle.std.specs.Prelude.{ℕ, List, length}
+use Rattle.std.specs.Prelude.{ℕ, List, length, Option, Some, None, Result, Ok, Err}
 use Rattle.terms.specs.Answer.{Answer, figures, refused, on_figures, and_then}
 use Rattle.terms.specs.Records.{Cutting}
 use Rattle.series.specs.Series.{true_cost_of, series_of}
 use Rattle.order_file.specs.declared.orders.Order.{Order}
 use Rattle.order_file.specs.Ordered.{ordered}
+use Rattle.terms.specs.Refusals.{number_of}
 use Rattle.planning.specs.declared.planned_orders.PlannedOrder.{PlannedOrder}
+use Rattle.planning.specs.declared.planned_orders.Unplanned.{Unplanned}
 
 -- What the calls up to planning give.
 pub record Planned : Type 0 where
@@ -32,3 +34,13 @@ planned_order x =
       plan = record { buckets = length x.cutting; cost = true_cost_of x.order.tariff x.cutting };
       records = x.cutting;
     }
+
+-- What a result says: a plan found, or the number of the refusal.
+abbrev pub planned_says : Result PlannedOrder Unplanned → Answer PlannedOrder
+planned_says (Ok x) = figures x
+planned_says (Err x) = refused (number_of x.why)
+
+-- An answer's figures, if there are any.
+abbrev pub if_figures : {A : Type 0} → Answer A → Option A
+if_figures (figures x) = Some x
+if_figures (refused n) = None

@@ -1,8 +1,9 @@
 // The calls up to planning. Public only for the crates above.
-ghost use Rattle.std.specs.Prelude.{◌≡◌};
+ghost use Rattle.std.specs.Prelude.{◌≡◌, IfErr, None};
 ghost use Rattle.terms.specs.Answer.{on_figures};
-ghost use Rattle.terms.specs.Refusals.{says};
-ghost use Rattle.planning.specs.Planning.{planned, planned_order};
+ghost use Rattle.terms.specs.Limits.{trace_limit};
+ghost use Rattle.order_file.specs.Ordered.{ordered};
+ghost use Rattle.planning.specs.Planning.{if_figures, planned, planned_order, planned_says};
 
 use order_file::ordered::Ordered;
 use record_list::records::Records;
@@ -18,17 +19,53 @@ pub struct PlannedOrder {
     pub records: Records,
 }
 
+// Why no plan was found, and the order with its trace where it was read.
+#[derive(Clone, Copy)]
+pub struct Unplanned {
+    pub why: Refusal,
+    pub order: Option<Ordered>,
+}
+
+impl From<Unplanned> for Refusal {
+    ghost from_gives = { λ x why. why ≡ x.why };
+
+    fn from(x: Unplanned) -> Refusal {
+        x.why
+    }
+}
+
+// An order that was not read.
+impl From<Refusal> for Unplanned {
+    ghost from_gives = { λ why x. x ≡ record { why = why; order = None } };
+
+    fn from(why: Refusal) -> Unplanned {
+        Unplanned { why, order: None }
+    }
+}
+
 // Reads the order, spreads its trace's part, and plans the series with the tariff read and the numbers
-// so spread, for a list of `space` demands and one of `room` records.
-pub fn plan_order(order: &[u8], space: usize, room: usize) -> Result<PlannedOrder, Refusal>
-    ensures { says result ≡ on_figures planned_order (planned space room order.now) }
+// so spread, for a list of `space` demands and one of `room` records. After a refusal to plan an order
+// that was read, the order is there with its demands.
+pub fn plan_order(order: &[u8], space: usize, room: usize) -> Result<PlannedOrder, Unplanned>
+    ensures answer { planned_says result ≡ on_figures planned_order (planned space room order.now) }
+    ensures order_read { IfErr result (λ x. x.order ≡ if_figures (ordered trace_limit order.now)) }
 {
     let order = Ordered::read(order)?;
     let trace = order.trace();
     if space < trace.len() {
-        return Err(Refusal::List);
+        let why = Refusal::List;
+        return Err(Unplanned {
+            why,
+            order: Some(order),
+        });
     }
-    let series = plan_series(trace, order.order().tariff, room)?;
+    let series = match plan_series(trace, order.order().tariff, room) {
+        Ok(series) => series,
+        Err(why) => return Err(Unplanned {
+            why,
+            order: Some(order),
+        }),
+    };
     Ok(PlannedOrder {
         order,
         plan: series.plan,

@@ -14,4 +14,4 @@ cost_is bs (figures p) k = cost-found bs p k
 cost_is bs (refused n) k = cost-refused bs n k
 
 pub returns : goal.returns
-returns c = let k = cost_is c.args.order.now _ c.plan_order.ensures in rw (sym k) (search rules)
+returns c = let k = cost_is c.args.order.now _ c.plan_order.ensures.answer in rw (sym k) (search rules)
