@@ -1,6 +1,6 @@
 -- From an order file to the series planned for it, on what is lent (01, "Series": the first calls of demand 3).
 -- Assumes nothing.
-use Rattle.std.specs.Prelude.{ℕ, List, length, Option, Some, None, Result, Ok, Err}
+use Rattle.std.specs.Prelude.{ℕ, List, length, Result, Ok, Err}
 use Rattle.terms.specs.Answer.{Answer, figures, refused, on_figures, and_then}
 use Rattle.terms.specs.Records.{Cutting}
 use Rattle.series.specs.Series.{true_cost_of, series_of}
@@ -39,8 +39,3 @@ planned_order x =
 abbrev pub planned_says : Result PlannedOrder Unplanned → Answer PlannedOrder
 planned_says (Ok x) = figures x
 planned_says (Err x) = refused (number_of x.why)
-
--- An answer's figures, if there are any.
-abbrev pub if_figures : {A : Type 0} → Answer A → Option A
-if_figures (figures x) = Some x
-if_figures (refused n) = None

@@ -1,9 +1,10 @@
 // The calls up to planning. Public only for the crates above.
-ghost use Rattle.std.specs.Prelude.{◌≡◌, IfErr, None};
+ghost use Rattle.std.specs.Prelude.{◌≡◌, Err, IfErr};
 ghost use Rattle.terms.specs.Answer.{on_figures};
 ghost use Rattle.terms.specs.Limits.{trace_limit};
+ghost use Rattle.terms.specs.Refusals.{says};
 ghost use Rattle.order_file.specs.Ordered.{ordered};
-ghost use Rattle.planning.specs.Planning.{if_figures, planned, planned_order, planned_says};
+ghost use Rattle.planning.specs.Planning.{planned, planned_order, planned_says};
 
 use order_file::ordered::Ordered;
 use record_list::records::Records;
@@ -19,11 +20,11 @@ pub struct PlannedOrder {
     pub records: Records,
 }
 
-// Why no plan was found, and the order with its trace where it was read.
+// Why no plan was found, and the order with its trace where it was read, or why it was not.
 #[derive(Clone, Copy)]
 pub struct Unplanned {
     pub why: Refusal,
-    pub order: Option<Ordered>,
+    pub order: Result<Ordered, Refusal>,
 }
 
 impl From<Unplanned> for Refusal {
@@ -36,10 +37,13 @@ impl From<Unplanned> for Refusal {
 
 // An order that was not read.
 impl From<Refusal> for Unplanned {
-    ghost from_gives = { λ why x. x ≡ record { why = why; order = None } };
+    ghost from_gives = { λ why x. x ≡ record { why = why; order = Err why } };
 
     fn from(why: Refusal) -> Unplanned {
-        Unplanned { why, order: None }
+        Unplanned {
+            why,
+            order: Err(why),
+        }
     }
 }
 
@@ -48,7 +52,7 @@ impl From<Refusal> for Unplanned {
 // that was read, the order is there with its demands.
 pub fn plan_order(order: &[u8], space: usize, room: usize) -> Result<PlannedOrder, Unplanned>
     ensures answer { planned_says result ≡ on_figures planned_order (planned space room order.now) }
-    ensures order_read { IfErr result (λ x. x.order ≡ if_figures (ordered trace_limit order.now)) }
+    ensures order_read { IfErr result (λ x. says x.order ≡ ordered trace_limit order.now) }
 {
     let order = Ordered::read(order)?;
     let trace = order.trace();
@@ -56,14 +60,14 @@ pub fn plan_order(order: &[u8], space: usize, room: usize) -> Result<PlannedOrde
         let why = Refusal::List;
         return Err(Unplanned {
             why,
-            order: Some(order),
+            order: Ok(order),
         });
     }
     let series = match plan_series(trace, order.order().tariff, room) {
         Ok(series) => series,
         Err(why) => return Err(Unplanned {
             why,
-            order: Some(order),
+            order: Ok(order),
         }),
     };
     Ok(PlannedOrder {
