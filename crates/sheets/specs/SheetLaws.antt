@@ -15,7 +15,6 @@ use Rattle.series.specs.OutlineLaws.{carried-count, carried-cost}
 use Rattle.encoding.specs.FillLaws.{Fills}
 use Rattle.order_file.specs.OrderedLaws.{ordered-count, ordered_range}
 use Rattle.text.specs.Fitted.{fitted}
-use Rattle.text.specs.FittedLaws.{long, zeros}
 use Rattle.text.specs.Lines.{plan_line}
 use Rattle.text.specs.PutLaws.{Puts}
 use Rattle.text.specs.ChainLaws.{two}
@@ -35,6 +34,7 @@ shown_text r =
 
 -- A plan that can be printed.
 pub record Shown (r : PlannedOrder) : Type 0 where
+  pub buckets : r.plan.buckets ≤ trace_limit
   pub printable : Printable r.order.order.tariff.factor r.order.demands r.records
   pub short : length (shown_text r) ≤ longest_sheet
 
@@ -75,14 +75,12 @@ module _ (bs : List ℕ) where
         let t = r.order.order.tariff in
         let range = ordered_range is.as_ordered in
         let c = (planned-cheapest is).carried in
+        let figures-are = ap (λ (z : PlannedOrder). z.plan.buckets) (plan_order_lem bs trace_limit trace_limit r p) in
         record {
+          buckets = omega (arith, figures-are, carried-count t c, range.0.few);
           printable = record { factor = range.1.factor; few = range.0.few; sum = carried-sum t c; each = carried-ranges t range.1 c };
           short = subst (λ (zs : List ℕ). length zs ≤ longest_sheet) (sym text_is) (sheet_short is);
         }
-
-    -- the array that the sheet is put together in holds it
-    pub sheet_room : length (shown_text r) ≤ length (zeros longest_sheet)
-    sheet_room = omega (arith, shown.short, long longest_sheet)
 
     -- a text filled with what is printed is filled with the definition's sheet
     pub sheet_filled : (old new : List ℕ) (a : Answer ℕ) → Fills (fitted (length old) (shown_text r)) old a new → Fills (sheet_in (length old) bs) old a new
@@ -98,6 +96,10 @@ module _ {r : PlannedOrder} (s : Shown r) (text : List ℕ) (size : length text 
 
   abbrev all_run_lines : List ℕ
   all_run_lines = run_lines r.order.order.tariff.factor 1 r.order.demands r.records
+
+  -- a text of that length holds what is printed
+  pub sheet_room : length (shown_text r) ≤ length text
+  sheet_room = subst (λ (n : ℕ). length (shown_text r) ≤ n) (sym size) s.short
 
   module _ (new : List ℕ) (next : ℕ) (p : Puts text 0 first_line new next) where
     pub sheet_put : (newer : List ℕ) (end : ℕ) → Puts new next all_run_lines newer end → Puts text 0 (shown_text r) newer end

@@ -3,10 +3,13 @@ ghost use Rattle.std.specs.Prelude.{◌≡◌, length};
 ghost use Rattle.terms.specs.Answer.{on_figures};
 ghost use Rattle.terms.specs.Lent.{filled};
 ghost use Rattle.terms.specs.Refusals.{says};
+ghost use Rattle.encoding.specs.FillLaws.{Fills};
+ghost use Rattle.text.specs.Fitted.{fitted};
 ghost use Rattle.sheets.specs.Sheet.{sheet_in};
+ghost use Rattle.sheets.specs.SheetLaws.{Shown, shown_text};
 
 use crate::plan_sheets::{LONGEST_SHEET, put_sheet};
-use planning::planned_orders::plan_order;
+use planning::planned_orders::{PlannedOrder, plan_order};
 use terms::Refusal;
 use terms::limits::TRACE_LIMIT;
 use text::fills::fill;
@@ -18,8 +21,20 @@ pub fn sheet(order: &[u8], text: &mut [u8]) -> Result<usize, Refusal>
     ensures result_value { says result ≡ on_figures length (sheet_in (length text.old) order.now) }
     ensures text_after { text.new ≡ filled (sheet_in (length text.old) order.now) text.old }
 {
-    let planned = plan_order(order, TRACE_LIMIT, TRACE_LIMIT)?;
+    match plan_order(order, TRACE_LIMIT, TRACE_LIMIT) {
+        Ok(planned) => fill_sheet(&planned, text),
+        Err(x) => Err(x.why),
+    }
+}
+
+// Puts the sheet of a plan together and stores it. Not inlined: the room for the text is taken once the plan is found,
+// so that no call takes more stack than include/metqoraz.h says.
+#[inline(never)]
+fn fill_sheet(planned: &PlannedOrder, text: &mut [u8]) -> Result<usize, Refusal>
+    requires { Shown planned.now }
+    ensures { Fills (fitted (length text.old) (shown_text planned.now)) text.old (says result) text.new }
+{
     let mut ready = [0u8; LONGEST_SHEET];
-    let length = put_sheet(&mut ready, &planned);
+    let length = put_sheet(&mut ready, planned);
     fill(&ready[..length], text)
 }
