@@ -2,7 +2,7 @@
 -- these.
 -- Assumes nothing.
 use Rattle.std.specs.Prelude.{ℕ, ◌≤◌, ◌≡◌, refl, List, length}
-use Rattle.std.proofs.Common.{arith, sym, ap, ◌∙◌}
+use Rattle.std.proofs.Common.{arith, sym, ap, subst, ◌∙◌}
 use Rattle.terms.specs.Answer.{Answer, figures, refused, on_figures}
 use Rattle.terms.specs.AnswerLaws.{on_figures_lem, on_refused}
 use Rattle.terms.specs.Lent.{filled}
@@ -80,3 +80,11 @@ module _ (bs : List ℕ) (h : Bytes bs) (old : Lent) (bytes : List ℕ) where
         written
         (q ∙ ap (λ (y : BookedRecords). filled (figures y.back) old.back) (sym made.2))
         ∙ ap (λ (a : Answer Steps). lent_after a old) (sym same))
+
+  -- So booking keeps the claim on what is lent, whatever it answers.
+  pub records-claim : (a : Answer BookedRecords) → Called bs z old.bytes bytes a → (demands : List ℕ) (plan back : Cutting)
+      → demands ≡ filled (on_figures (λ r. r.order.demands) a) old.demands → plan ≡ filled (on_figures (λ r. r.plan) a) old.plan
+      → back ≡ filled (on_figures (λ r. r.back) a) old.back → Claim bs old (lent demands plan bytes back) (on_figures (λ r. r.booking) a)
+  records-claim (figures r) c demands plan back d p q = booked-claim r c demands plan back d p q
+  records-claim (refused n) c demands plan back d p q =
+      subst (λ (x : Lent). Claim bs old x (refused n)) (lent_by (sym d) (sym p) refl (sym q)) (refused-claim n c)

@@ -80,8 +80,8 @@ module _ (bs : List ℕ) (old : RecordLists) (room : ℕ) (size : room ≡ room_
       )
 
   module _ (y : Recorded) (f : figures y ≡ read_plan room bs) where
-    pub buckets_fit : length y.buckets ≤ room_of old.runs old.rates old.depths
-    buckets_fit = omega (arith, size, (read-fits room bs y f).0)
+    pub buckets_fit : (length y.buckets ≤ room_of old.runs old.rates old.depths) × (length y.buckets ≤ trace_limit)
+    buckets_fit = let fits = read-fits room bs y f in (omega (arith, size, fits.0), fits.1)
 
     pub plan-read : (new : RecordLists) → Filled (figures y.buckets) old new → (T k : ℕ) → ReadsCoded bs old new T k y.cost y.periods (length y.buckets)
     plan-read new e T k =

@@ -17,8 +17,10 @@ use terms::limits::TRACE_LIMIT;
 pub fn metqoraz_series(order: &[u8]) -> u64
     ensures { result ≡ coded (planned_cost order.now) }
 {
-    plan_order(order, TRACE_LIMIT, TRACE_LIMIT)
-        .map_or_else(|x| coded_refusal(x.why), |x| x.plan.cost)
+    match plan_order(order, TRACE_LIMIT, TRACE_LIMIT) {
+        Ok(x) => x.plan.cost,
+        Err(x) => coded_refusal(x.why),
+    }
 }
 
 // Writes the file of the cheapest plan for an order into the front of the bytes and answers its

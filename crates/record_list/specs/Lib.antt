@@ -1,3 +1,4 @@
 -- Bucket records in a list, and their laws.
 pub mod Held
+pub mod HeldLaws
 pub mod PartLaws

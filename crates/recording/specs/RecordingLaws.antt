@@ -1,12 +1,12 @@
 -- What recording a plan leaves, call by call.
 -- Assumes nothing.
-use Rattle.std.specs.Prelude.{ℕ, suc, ◌≤◌, ◌<◌, ◌≡◌, refl, true, List, [], ◌∷◌, length, take, drop, get_or}
-use Rattle.std.proofs.Common.{arith, sym, ap, subst, ◌∙◌, length-take, length-drop, length-take-le}
+use Rattle.std.specs.Prelude.{ℕ, suc, ◌≤◌, ◌<◌, ◌≡◌, refl, Bool, true, false, List, [], ◌∷◌, leb, length, take, drop, get_or}
+use Rattle.std.proofs.Common.{arith, sym, ap, ap₂, subst, ◌∙◌, le-leb, length-take, length-drop, length-take-le}
 use Rattle.terms.specs.declared.Factor.{Factor}
-use Rattle.terms.specs.Answer.{Answer, figures, refused, on_figures}
-use Rattle.terms.specs.AnswerLaws.{figures-refused, same-figures}
+use Rattle.terms.specs.Answer.{Answer, figures, refused, weigh, on_figures}
+use Rattle.terms.specs.AnswerLaws.{figures-refused, same-figures, on_refused, then_figures, then_refused}
 use Rattle.terms.specs.Lent.{filled}
-use Rattle.terms.specs.LentLaws.{fills_front}
+use Rattle.terms.specs.LentLaws.{fills_front, front-count}
 use Rattle.terms.specs.Limits.{trace_limit}
 use Rattle.terms.specs.RangeLaws.{factor_range}
 use Rattle.terms.specs.RangeRules.{FactorRange, FreshRange, RecordRange}
@@ -19,18 +19,57 @@ use Rattle.meter.specs.Meter.{meter_on}
 use Rattle.meter.specs.MeterRuns.{run-metered}
 use Rattle.plan_file.specs.declared.answers.PlanFigures.{PlanFigures}
 use Rattle.plan_file.specs.declared.answers.Recorded.{Recorded}
-use Rattle.plan_file.specs.Plan.{read_plan, write_plan}
+use Rattle.plan_file.specs.Plan.{figures_in, read_plan, write_plan}
 use Rattle.plan_file.specs.PlanLaws.{file-read}
 use Rattle.plan_file.specs.PlanRules.{CountsRange, WriteRules, write_rules}
 use Rattle.record_list.specs.Held.{no_record}
 use Rattle.recording.specs.declared.recorded.BookingRecords.{BookingRecords}
-use Rattle.recording.specs.Recording.{meters_of, totals_of, recording, booking_records}
+use Rattle.recording.specs.declared.metering.MeterTotals.{MeterTotals}
+use Rattle.recording.specs.Recording.{Recording, written, read_back, meters_of, totals_of, recording, booking_records}
 
 -- What recording a plan answers that is read back into a list of `space` records: the booking and the records read
 -- back; and what the bytes then hold, after a refusal what they held. `file` is what writing it gives.
 pub record RecordsPlan (x : PlanFigures) (file : Answer (List ℕ)) (f : Factor) (ds : List ℕ) (bytes : List ℕ) (space : ℕ) (bytes' : List ℕ) (answer : Answer BookingRecords) : Type 0 where
   pub answers : answer ≡ on_figures booking_records (recording space x file f ds)
   pub writes : bytes' ≡ filled (on_figures (λ y. y.file) (recording space x file f ds)) bytes
+
+-- The booking of a plan read back, with what the meters ended with, and the records read.
+abbrev pub with_meters : Recorded → ℕ → MeterTotals → BookingRecords
+with_meters y n t = record { booking = record { plan = figures_in y; length = n; meters = t }; records = y.buckets }
+
+-- What recording gives is what is promised of what it has filled.
+module _ (x : PlanFigures) (file : Answer (List ℕ)) (f : Factor) (ds bytes : List ℕ) (space : ℕ) where
+  abbrev Records : List ℕ → Answer BookingRecords → Type 0
+  Records = RecordsPlan x file f ds bytes space
+
+  records_as : (a : Answer Recording) → recording space x file f ds ≡ a → (bytes' : List ℕ) → bytes' ≡ filled (on_figures (λ y. y.file) a) bytes
+      → (r : Answer BookingRecords) → r ≡ on_figures booking_records a → Records bytes' r
+  records_as a e bytes' b r h =
+      record {
+        answers = h ∙ ap (on_figures booking_records) (sym e);
+        writes = b ∙ ap (λ (c : Answer Recording). filled (on_figures (λ y. y.file) c) bytes) (sym e);
+      }
+
+  refuses : (n : ℕ) → written space f x file ≡ refused n → Records bytes (refused n)
+  refuses n e = records_as (refused n) (sym (then_refused (written space f x file) _ e)) bytes refl (refused n) refl
+
+  -- A factor outside its range, a second list with too little room and what writing refuses leave the bytes as they are.
+  pub no-factor : factor_ok f ≡ false → Records bytes (refused 5)
+  no-factor h = refuses 5 (ap (λ (ok : Bool). weigh ok 5 (weigh (leb x.buckets space) 6 file)) h)
+
+  module _ (opens : factor_ok f ≡ true) where
+    pub no_room : leb x.buckets space ≡ false → Records bytes (refused 6)
+    no_room h = refuses 6 (ap₂ (λ (a b : Bool). weigh a 5 (weigh b 6 file)) opens h)
+
+    module _ (h : leb x.buckets space ≡ true) where
+      file-is : written space f x file ≡ file
+      file-is = ap₂ (λ (c d : Bool). weigh c 5 (weigh d 6 file)) opens h
+
+      pub write_refused : (bytes' : List ℕ) → bytes' ≡ filled file bytes → (n : ℕ) → refused n ≡ on_figures length file → Records bytes' (refused n)
+      write_refused bytes' b n e =
+          let g = on_refused length file (sym e) in
+          let same : bytes ≡ bytes' = sym (b ∙ ap (λ (a : Answer (List ℕ)). filled a bytes) g) in
+          subst (λ (bs : List ℕ). Records bs (refused n)) same (refuses n (file-is ∙ g))
 
 -- The meters of records in their ranges, opened with a factor in its own, refuse nothing.
 meters_run : (f : Factor) → FactorRange f → (ds : List ℕ) → Demands ds → length ds ≤ trace_limit → (xs : Cutting)
@@ -87,3 +126,22 @@ module _ (x : PlanFigures) (list : Cutting) (bytes bytes' : List ℕ) (n : ℕ)
           let metered = meters_run f (factor_range f opens) ds d (omega (arith, q, rules.counts.periods.few)) xs rules.records.each in
           let totals = ap (λ (ys : Cutting). on_figures totals_of (meters_of f ds ys)) back-records ∙ ap (on_figures totals_of) metered.1 in
           figures-refused (sym (h ∙ totals))
+
+      -- so recording is whole once the plan is written, with what the meters ended with
+      pub plan-metered : (f : Factor) → factor_ok f ≡ true → Demands ds → (t : Answer MeterTotals) → t ≡ on_figures totals_of (meters_of f ds back.buckets)
+          → RecordsPlan x (write_plan (length bytes) x list) f ds bytes space bytes' (on_figures (with_meters back n) t)
+      plan-metered f opens d t m =
+          let writing = write_plan (length bytes) x list in
+          let plan : Recorded = record { periods = x.periods; cost = x.cost; buckets = xs } in
+          let metered = meters_run f (factor_range f opens) ds d (omega (arith, q, rules.counts.periods.few)) xs rules.records.each in
+          let made : Recording = record { file = front; plan = plan; meters = metered.0 } in
+          let so : recording space x writing f ds ≡ figures made =
+          sym (then_figures (written space f x writing) (read_back space f ds) (file-is x writing f ds bytes space opens (le-leb _ _ fits) ∙ written-front))
+          ∙ sym (then_figures (read_plan space front) _ reads-front)
+          ∙ ap (on_figures (λ ms. record { file = front; plan = plan; meters = ms })) metered.1 in
+          let totals = m ∙ ap (λ (ys : Cutting). on_figures totals_of (meters_of f ds ys)) back-records ∙ ap (on_figures totals_of) metered.1 in
+          let back-is : back ≡ plan = same-figures (g ∙ reads-front) in
+          let answer : figures (with_meters back n (totals_of metered.0)) ≡ figures (booking_records made) =
+          ap₂ (λ (y : Recorded) (k : ℕ). figures (with_meters y k (totals_of metered.0))) back-is (sym (front-count writing bytes bytes' n e b)) in
+          records_as x writing f ds bytes space (figures made) so bytes' (b ∙ ap (λ (a : Answer (List ℕ)). filled a bytes) written-front) _
+          (ap (on_figures (with_meters back n)) totals ∙ answer)

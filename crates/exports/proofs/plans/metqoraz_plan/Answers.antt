@@ -18,7 +18,7 @@ store_figures-requires c =
     let s = c.args in
     let old : RecordLists = lists s.runs.now s.rates.now s.depths.now in
     let room : c.min-room.result ≡ room_of s.runs.now s.rates.now s.depths.now = omega (arith, c.min-room.ensures, c.min.ensures) in
-    rw c.as_slice.ensures.items (buckets_fit s.plan.now old _ room _ c.in-Ok.ensures.result_value)
+    rw c.as_slice.ensures.items (buckets_fit s.plan.now old _ room _ c.in-Ok.ensures.result_value).0
 
 pub returns : goal.returns
 returns c =
