@@ -40,9 +40,11 @@ impl<E: Print> Program<'_, E> {
         let number = number_of(word(rt, index, &mut [0; WORD_ROOM]));
         if number.is_none() {
             let name = self.name;
-            let _ = println!(self.errors;
+            if let Err(error) = println!(self.errors;
                 "{name}: {argument} is a whole number of kilobits, 0 to 4294967295 (refused 5)"
-            );
+            ) {
+                say(self.errors, name, "write", &error);
+            }
         }
         number
     }

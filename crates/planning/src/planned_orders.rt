@@ -1,5 +1,5 @@
 // The calls up to planning. Public only for the crates above.
-ghost use Rattle.std.specs.Prelude.{◌≡◌, Err, IfErr};
+ghost use Rattle.std.specs.Prelude.{◌≡◌, Err, IfErr, Ok};
 ghost use Rattle.terms.specs.Answer.{on_figures};
 ghost use Rattle.terms.specs.Limits.{trace_limit};
 ghost use Rattle.terms.specs.Refusals.{says};
@@ -47,6 +47,18 @@ impl From<Refusal> for Unplanned {
     }
 }
 
+impl Unplanned {
+    // A refusal to plan an order that was read.
+    fn of(why: Refusal, order: Ordered) -> Unplanned
+        ensures { result ≡ record { why = why; order = Ok order } }
+    {
+        Unplanned {
+            why,
+            order: Ok(order),
+        }
+    }
+}
+
 // Reads the order, spreads its trace's part, and plans the series with the tariff read and the numbers
 // so spread, for a list of `space` demands and one of `room` records. After a refusal to plan an order
 // that was read, the order is there with its demands.
@@ -57,18 +69,11 @@ pub fn plan_order(order: &[u8], space: usize, room: usize) -> Result<PlannedOrde
     let order = Ordered::read(order)?;
     let trace = order.trace();
     if space < trace.len() {
-        let why = Refusal::List;
-        return Err(Unplanned {
-            why,
-            order: Ok(order),
-        });
+        return Err(Unplanned::of(Refusal::List, order));
     }
     let series = match plan_series(trace, order.order().tariff, room) {
         Ok(series) => series,
-        Err(why) => return Err(Unplanned {
-            why,
-            order: Ok(order),
-        }),
+        Err(why) => return Err(Unplanned::of(why, order)),
     };
     Ok(PlannedOrder {
         order,

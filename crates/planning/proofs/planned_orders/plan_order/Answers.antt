@@ -13,12 +13,13 @@ returns-in_err-order-clause-answer c =
 
 pub returns-then-space-trace-clause-answer : goal.returns-then-space-trace-clause-answer
 returns-then-space-trace-clause-answer c =
-    planning-short _ _ _ _ (sym c.in_ok-order.ensures) (lt-leb _ _ (rw c.trace-trace.ensures at c.if-space-trace.true))
+    rw c.of.ensures (planning-short _ _ _ _ (sym c.in_ok-order.ensures) (lt-leb _ _ (rw c.trace-trace.ensures at c.if-space-trace.true)))
 
 pub returns-in-Err-clause-answer : goal.returns-in-Err-clause-answer
 returns-in-Err-clause-answer c =
     let inside = rw c.trace-trace.ensures at c.if-space-trace.false in
-    series-planned _ _ _ _ (sym c.in_ok-order.ensures) inside (refused _) (rw (c.order.ensures, c.trace-trace.ensures) at c.in-Err.ensures)
+    rw c.of-in-Err.ensures
+    (series-planned _ _ _ _ (sym c.in_ok-order.ensures) inside (refused _) (rw (c.order.ensures, c.trace-trace.ensures) at c.in-Err.ensures))
 
 pub returns-clause-answer : goal.returns-clause-answer
 returns-clause-answer c =
