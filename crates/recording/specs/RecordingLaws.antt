@@ -53,7 +53,7 @@ module _ (x : PlanFigures) (file : Answer (List ℕ)) (f : Factor) (ds bytes : L
   refuses : (n : ℕ) → written space f x file ≡ refused n → Records bytes (refused n)
   refuses n e = records_as (refused n) (sym (then_refused (written space f x file) _ e)) bytes refl (refused n) refl
 
-  -- A factor outside its range, a second list with too little room and what writing refuses leave the bytes as they are.
+  -- A factor outside its range, a second list with too little room and a refusal to write leave the bytes as they are.
   pub no-factor : factor_ok f ≡ false → Records bytes (refused 5)
   no-factor h = refuses 5 (ap (λ (ok : Bool). weigh ok 5 (weigh (leb x.buckets space) 6 file)) h)
 
