@@ -37,8 +37,8 @@ impl Model for Ordered {
     ghost inverse = { λ o. record { order = o.order; demands = filled (figures o.demands) (replicate trace_limit 0) } };
 
     ghost inverse_ok = { λ a h i. record {
-        order = a.order;
-        demands = front-fills a.order.periods a.demands _ (omega (arith, h.0, h.1)) h.2 i;
+      order = a.order;
+      demands = front-fills a.order.periods a.demands _ (omega (arith, h.0, h.1)) h.2 i;
     } };
 }
 

@@ -33,8 +33,8 @@ impl Model for Records {
     ghost inverse = { λ xs. record { entries = held (figures xs); count = length xs } };
 
     ghost inverse_ok = { λ a h i. record {
-        entries = front-fills a.count a.entries blank (omega (arith, h.0, h.1)) h.2 i;
-        count = length-take-le a.count a.entries (omega (arith, h.0, h.1)) i;
+      entries = front-fills a.count a.entries blank (omega (arith, h.0, h.1)) h.2 i;
+      count = length-take-le a.count a.entries (omega (arith, h.0, h.1)) i;
     } };
 }
 
