@@ -43,7 +43,9 @@ impl Model for Ordered {
 }
 
 impl Ordered {
-    // Reads an order and spreads its trace; or refusal 1 to 5.
+    // Reads an order and spreads its trace; or refusal 1 to 5. Not inlined: what reading takes of the stack is free
+    // again when the order is used, and so the calls that plan hand their results over in place.
+    #[inline(never)]
     pub fn read(order: &[u8]) -> Result<Ordered, Refusal>
         ensures { says result ≡ ordered trace_limit order.now }
     {

@@ -71,13 +71,12 @@ pub fn plan_order(order: &[u8], space: usize, room: usize) -> Result<PlannedOrde
     if space < trace.len() {
         return Err(Unplanned::of(Refusal::List, order));
     }
-    let series = match plan_series(trace, order.order().tariff, room) {
-        Ok(series) => series,
-        Err(why) => return Err(Unplanned::of(why, order)),
-    };
-    Ok(PlannedOrder {
-        order,
-        plan: series.plan,
-        records: series.records,
-    })
+    match plan_series(trace, order.order().tariff, room) {
+        Ok(series) => Ok(PlannedOrder {
+            order,
+            plan: series.plan,
+            records: series.records,
+        }),
+        Err(why) => Err(Unplanned::of(why, order)),
+    }
 }

@@ -21,7 +21,7 @@ returns-in-Err-clause-answer c =
     rw c.of-in-Err.ensures
     (series-planned _ _ _ _ (sym c.in_ok-order.ensures) inside (refused _) (rw (c.order.ensures, c.trace-trace.ensures) at c.in-Err.ensures))
 
-pub returns-clause-answer : goal.returns-clause-answer
-returns-clause-answer c =
+pub returns-in-Ok-clause-answer : goal.returns-in-Ok-clause-answer
+returns-in-Ok-clause-answer c =
     let inside = rw c.trace-trace.ensures at c.if-space-trace.false in
     series-planned _ _ _ _ (sym c.in_ok-order.ensures) inside (figures _) (rw (c.order.ensures, c.trace-trace.ensures) at c.in-Ok.ensures)
