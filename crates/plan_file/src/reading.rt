@@ -23,10 +23,8 @@ pub fn read_records(bytes: &[u8], room: usize) -> Result<Recorded, Refusal>
     Ok(plan)
 }
 
-// Weighs all that a plan file holds; or refusal 1 to 5. Not inlined: what its steps take of the stack is free
-// again when the plan is used.
+// Weighs all that a plan file holds; or refusal 1 to 5.
 #[tactic(auto, unfolding(crate::specs::Plan::plan_in))]
-#[inline(never)]
 fn plan_in(bytes: &[u8]) -> Result<Recorded, Refusal>
     ensures { says result ≡ plan_in bytes.now }
 {
